@@ -1,0 +1,10 @@
+pub mod Cases
+pub mod Parts
+pub mod Differences
+pub mod Zeros
+pub mod Mitchell
+pub mod Nearest
+pub mod Staged
+pub mod Fold
+pub mod Truncated
+pub mod Widths

@@ -1,0 +1,55 @@
+-- The starred twelve of document 01, "Figures to hold the designs to", in one list with one proof, of the meaning itself.
+use mathlib.Core.Path.{_≡_, refl}
+use mathlib.Core.List.{List, [], _∷_, map}
+use Prim.Native.Nat.{ℕ}
+use lib.IntN.{ℤ, pos, negℤ}
+use Rattle.designs.specs.Signs.{residue}
+use Rattle.designs.specs.Outcomes.{Outcome, accepted, unsignedOutcome, signedOutcome, designOf}
+use Rattle.designs.specs.Rows.{Report, report, residues}
+
+-- What a figure asks, with the design, setting and width as the table has them: an unsigned product, a signed one, or a row.
+pub data Question : Type 0 where
+  unsigned : ℕ → ℕ → ℕ → ℕ → ℕ → Question
+  signed : ℕ → ℕ → ℕ → ℤ → ℤ → Question
+  row : ℕ → ℕ → List ℤ → List ℤ → Question
+
+-- What the table prints: a product and its residue, or a report and its residues.
+pub data Answer : Type 0 where
+  natural : Outcome ℕ → ℤ → Answer
+  integer : Outcome ℤ → ℤ → Answer
+  scored : Report → List ℤ → Answer
+
+-- What the definitions give.
+unfoldable pub meaning : Question → Answer
+unfolding unsignedOutcome signedOutcome residue report residues
+meaning (unsigned design setting width a b) =
+    natural (unsignedOutcome design width setting a b) (residue (designOf design setting) (pos a) (pos b))
+meaning (signed design setting width a b) =
+    integer (signedOutcome design width setting a b) (residue (designOf design setting) a b)
+meaning (row design setting ws fs) = scored (report (designOf design setting) ws fs) (residues (designOf design setting) ws fs)
+
+abbrev − : ℕ → ℤ
+− n = negℤ (pos n)
+
+abbrev starredRow : Report
+starredRow = record { score = − 20; trueSum = − 21; error = − 1; magnitudeSum = 39; nonzeroPairs = 2 }
+
+pub figures : List (Question × Answer)
+figures =
+    (unsigned 1 0 8 3 3, natural (accepted 8) (pos 1))
+    ∷ (unsigned 1 0 8 5 6, natural (accepted 28) (pos 2))
+    ∷ (unsigned 1 0 8 192 192, natural (accepted 32768) (pos 4096))
+    ∷ (unsigned 2 0 8 5 6, natural (accepted 32) (− 2))
+    ∷ (unsigned 2 0 8 191 192, natural (accepted 40704) (− 4032))
+    ∷ (signed 2 0 8 (− 5) (pos 6), integer (accepted (− 32)) (pos 2))
+    ∷ (unsigned 3 1 8 7 7, natural (accepted 40) (pos 9))
+    ∷ (unsigned 3 2 8 7 7, natural (accepted 48) (pos 1))
+    ∷ (unsigned 3 3 8 7 7, natural (accepted 49) (pos 0))
+    ∷ (unsigned 4 4 8 3 3, natural (accepted 8) (pos 1))
+    ∷ (unsigned 4 4 8 16 16, natural (accepted 272) (− 16))
+    ∷ (row 1 0 (pos 3 ∷ − 5 ∷ pos 0 ∷ []) (pos 3 ∷ pos 6 ∷ pos 7 ∷ []), scored starredRow (pos 1 ∷ − 2 ∷ pos 0 ∷ []))
+    ∷ []
+
+pub figures-hold : map (λ f. meaning (f .0)) figures ≡ map (λ f. f .1) figures
+unfolding meaning figures
+figures-hold = refl

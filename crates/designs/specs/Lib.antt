@@ -1,0 +1,5 @@
+pub mod Designs
+pub mod Signs
+pub mod Outcomes
+pub mod Rows
+pub mod Figures

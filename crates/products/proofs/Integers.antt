@@ -1,0 +1,65 @@
+-- Signed machine numbers: their sign tests, their sizes, and what fits an i64. Each law goes by the two constructors of ℤ.
+-- Assumes nothing.
+use mathlib.Core.Path.{_≡_, refl, sym, ap, _∙_, subst}
+use Prim.Native.Nat.{ℕ, zero, suc, _+_, _-_, _^_, _≤_, _<_}
+use native.Mathlib.Nat.{add-zero, lt-of-le-of-lt}
+use native.Mathlib.Omega.{arith}
+use mathlib.Core.Bool.{Bool, true, false, false≢true}
+use lib.Dec.{T, leb, ltb, leb·zero, leb·suc-zero}
+use lib.IntN.{ℤ, pos, negsuc, negℤ, natAbs, _-ℤ_, +ℤ-idl}
+use lib.Ieee.{unlike}
+use lib.Signed.{ltZ, leZ, mag, nonNeg}
+use mir.Syntax.{w64}
+use mir.Val.{SFits, toZ, ofZ}
+use mir.Facts.{toZ-ofZ}
+use Rattle.designs.specs.Signs.{negative, withSign}
+use Rattle.designs.proofs.Differences.{gap, whole, is-pos, gap-eq, add-gap}
+
+-- the machine's sign test
+below-zero : (x : ℤ) → ltZ x (pos 0) ≡ negative x
+below-zero (pos n) = leb·suc-zero n
+below-zero (negsuc n) = refl
+
+-- a sign test of a machine number, which is read back from its bits
+pub tested : {t : Bool} (x : ℤ) → SFits w64 x → ltZ (toZ w64 (ofZ w64 x)) (pos 0) ≡ t → negative x ≡ t
+tested x h e = sym (below-zero x) ∙ (rw (toZ-ofZ h) at e)
+
+pub nonnegative : (x : ℤ) → negative x ≡ false → T (nonNeg x)
+nonnegative (pos n) e = tt
+nonnegative (negsuc n) e = absurd (false≢true (sym e))
+
+-- exactly one of two is negative, by the sign of the first
+pub unlike-minus : (x y : ℤ) → negative x ≡ true → leZ (pos 0) y ≡ unlike (negative x) (negative y)
+unlike-minus x (pos n) e = rw e (leb·zero n)
+unlike-minus x (negsuc n) e = rw e refl
+
+pub unlike-plus : (x y : ℤ) → negative x ≡ false → ltZ y (pos 0) ≡ unlike (negative x) (negative y)
+unlike-plus x (pos n) e = rw e (leb·suc-zero n)
+unlike-plus x (negsuc n) e = rw e refl
+
+-- −1 − x, for a negative x, is one less than its size
+pub flip : (x : ℤ) → negative x ≡ true → negsuc 0 -ℤ x ≡ pos (natAbs x - 1)
+unfolding gap
+flip (pos n) e = absurd (false≢true e)
+flip (negsuc n) e = sym (is-pos (suc n) 1 (suc n - 1) (omega arith))
+
+pub size-pos : (x : ℤ) → negative x ≡ true → 0 < natAbs x
+size-pos (pos n) e = absurd (false≢true e)
+size-pos (negsuc n) e = omega arith
+
+-- sizes that fit
+pub size-le : (x : ℤ) → SFits w64 x → natAbs x ≤ 2 ^ 63
+size-le (pos n) h = let k : n < 2 ^ 63 = h .sfits in omega arith
+size-le (negsuc n) h = h .sfits
+
+pub fits : (minus : Bool) (n : ℕ) → n < 2 ^ 63 → SFits w64 (withSign minus n)
+fits false n h = record { sfits = h }
+fits true zero h = record { sfits = h }
+fits true (suc n) h = record { sfits = omega arith }
+
+pub zero-minus : (x : ℤ) → pos 0 -ℤ x ≡ negℤ x
+zero-minus x = +ℤ-idl (negℤ x)
+
+-- a result, read back from its bits
+pub read-back : (x : ℤ) → mag x < 2 ^ 63 → toZ w64 (ofZ w64 x) ≡ x
+read-back x h = toZ-ofZ (record { sfits = h })

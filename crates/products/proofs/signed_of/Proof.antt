@@ -1,0 +1,72 @@
+-- `signed_of` gives the product of the sizes its sign. That product has at most 63 bits, so either sign fits. Assumes nothing.
+use borrow.Author.Needs.{needs}
+use mathlib.Core.Path.{_≡_, sym, ap, ap₂, _∙_}
+use Prim.Native.Nat.{ℕ, _^_, _<_}
+use lib.IntN.{ℤ, natAbs}
+use mathlib.Core.Bool.{Bool}
+use mir.Facts.{toZ-ofZ}
+use Rattle.designs.specs.Designs.{Design, product}
+use Rattle.designs.specs.Signs.{signedProduct, withSign}
+use Rattle.designs.specs.Outcomes.{designOf}
+use Rattle.designs.proofs.Widths.{size-lt}
+use Rattle.products.proofs.Integers.{read-back}
+use native.Mathlib.Omega.{arith}
+use Rattle.products.proofs.signed_of.Statement.{statement}
+use Rattle.products.proofs.signed_of.Tie as tie
+
+-- the sizes, which are read back from the operands' bits
+first : (c : tie.After-magnitude) → c .magnitude .result ≡ natAbs (c .before .args .a)
+first c = rw (toZ-ofZ (c .before .fits .a)) at (c .magnitude .ensures)
+
+second : (c : tie.After-magnitude2) → c .magnitude2 .result ≡ natAbs (c .before .before .args .b)
+second c = rw (toZ-ofZ (c .before .before .fits .b)) at (c .magnitude2 .ensures)
+
+size : (c : tie.After-product-of)
+    → c .product-of .result ≡ product (designOf (c .before .before .before .args .design) (c .before .before .before .args .setting)) (natAbs (c .before .before .before .args .a)) (natAbs (c .before .before .before .args .b))
+size c =
+    let start = c .before .before .before in
+    c .product-of .ensures ∙ ap (λ (D : Design). product D (c .before .before .magnitude .result) (c .before .magnitude2 .result)) (start .pre .serves)
+    ∙ ap₂ (product (designOf (start .args .design) (start .args .setting))) (first (c .before .before)) (second (c .before))
+
+magnitude-requires : tie.Need-magnitude-requires
+magnitude-requires c κs = search needs
+
+cast-product-of : tie.Need-cast-product-of
+cast-product-of c = omega (arith, first c)
+
+magnitude-requires-2 : tie.Need-magnitude-requires-2
+magnitude-requires-2 c κs = search needs
+
+cast-product-of-2 : tie.Need-cast-product-of-2
+cast-product-of-2 c = omega (arith, second c)
+
+product-of-requires : tie.Need-product-of-requires
+product-of-requires c κs = search needs
+
+opposite-requires : tie.Need-opposite-requires
+opposite-requires c κs = search needs
+
+with-sign-requires : tie.Need-with-sign-requires
+with-sign-requires c κs =
+    let start = c .before .before .before .before in
+    rw (size (c .before)) (size-lt (designOf (start .args .design) (start .args .setting)) (start .pre .keeps) 31 (natAbs (start .args .a)) (natAbs (start .args .b)) (start .pre .first) (start .pre .second))
+
+returns : tie.Need-returns
+unfolding signedProduct
+returns c =
+    let start = c .before .before .before .before .before in
+    read-back (c .with-sign .result) (c .with-sign .ok) ∙ c .with-sign .ensures
+    ∙ ap₂ (λ (s : Bool) (n : ℕ). withSign s n) (rw (toZ-ofZ (start .fits .a), toZ-ofZ (start .fits .b)) at (c .before .opposite .ensures)) (size (c .before .before))
+
+pub signed-of-spec : {M : Type 1} → statement M
+signed-of-spec =
+    tie.close
+    (tie.spec
+    magnitude-requires
+    cast-product-of
+    magnitude-requires-2
+    cast-product-of-2
+    product-of-requires
+    opposite-requires
+    with-sign-requires
+    returns)

@@ -1,0 +1,91 @@
+-- `unsigned_product` judges as `refusals` does, and an accepted input is within what the kernels serve. Assumes nothing.
+use borrow.Author.Needs.{needs}
+use mathlib.Core.Path.{_≡_, sym, ap, _∙_}
+use Prim.Native.Nat.{ℕ}
+use mathlib.Core.Bool.{Bool, true}
+use Rattle.designs.specs.Designs.{Design, product}
+use Rattle.designs.specs.Outcomes.{accepted, designOf, insideUnsigned, unsignedOutcome}
+use Rattle.products.proofs.Judged.{Accepted, accept, by-setting, by-operand, by-value, fails, holds, unsigned-size}
+use Rattle.products.proofs.unsigned_product.Statement.{statement}
+use Rattle.products.proofs.unsigned_product.Tie as tie
+
+-- what the definition gives for an accepted input, and its tests of the operands
+abbrev value : tie.Start → ℕ
+value c = product (designOf (c .args .design) (c .args .setting)) (c .args .a) (c .args .b)
+
+abbrev first : tie.Start → Bool
+first c = insideUnsigned (c .args .width) (c .args .a)
+
+abbrev second : tie.Start → Bool
+second c = insideUnsigned (c .args .width) (c .args .b)
+
+settled : (c : tie.Else1) → Accepted (c .before .before .args .design) (c .before .before .args .width) (c .before .before .args .setting)
+settled c = accept _ _ _ (sym (c .before .refusal-of .ensures) ∙ c .if1 .left)
+
+-- both operands are inside the width
+first-holds : (c : tie.Else2) → first (c .before .before .before .before) ≡ true
+first-holds c = holds (c .before .inside-unsigned .ensures) (c .if2 .left)
+
+second-holds : (c : tie.Else3) → second (c .before .before .before .before .before .before) ≡ true
+second-holds c = holds (c .before .inside-unsigned2 .ensures) (c .if3 .left)
+
+refusal-of-requires : tie.Need-refusal-of-requires
+refusal-of-requires c κs = search needs
+
+returns : tie.Need-returns
+unfolding unsignedOutcome
+returns c =
+    let start = c .before .before in
+    by-setting _ _ _ (value start) (first start) (second start) (c .before .refusal-of .ensures) (c .if1 .taken)
+
+inside-unsigned-requires : tie.Need-inside-unsigned-requires
+inside-unsigned-requires c κs = settled c .high
+
+returns-2 : tie.Need-returns-2
+unfolding unsignedOutcome
+returns-2 c =
+    let start = c .before .before .before .before in
+    by-operand _ _ _ (value start) (first start) (second start) (settled (c .before .before)) (simp (fails (c .before .inside-unsigned .ensures) (c .if2 .taken)))
+
+inside-unsigned-requires-2 : tie.Need-inside-unsigned-requires-2
+inside-unsigned-requires-2 c κs = settled (c .before .before) .high
+
+returns-3 : tie.Need-returns-3
+unfolding unsignedOutcome
+returns-3 c =
+    let start = c .before .before .before .before .before .before in
+    by-operand _ _ _ (value start) (first start) (second start) (settled (c .before .before .before .before))
+    (simp (first-holds (c .before .before), fails (c .before .inside-unsigned2 .ensures) (c .if3 .taken)))
+
+cast-product-of : tie.Need-cast-product-of
+cast-product-of c = record { fits = unsigned-size _ _ (settled (c .before .before .before .before) .high) (first-holds (c .before .before)) }
+
+cast-product-of-2 : tie.Need-cast-product-of-2
+cast-product-of-2 c = record { fits = unsigned-size _ _ (settled (c .before .before .before .before) .high) (second-holds c) }
+
+product-of-requires : tie.Need-product-of-requires
+product-of-requires c κs = search needs
+
+returns-4 : tie.Need-returns-4
+unfolding unsignedOutcome
+returns-4 c =
+    let inside = c .before in
+    let start = inside .before .before .before .before .before .before in
+    let setting = settled (inside .before .before .before .before) in
+    ap accepted (c .product-of .ensures ∙ ap (λ (D : Design). product D (start .args .a) (start .args .b)) (setting .serves))
+    ∙ by-value _ _ _ (value start) (first start) (second start) setting (first-holds (inside .before .before)) (second-holds inside)
+
+pub unsigned-product-spec : {M : Type 1} → statement M
+unsigned-product-spec =
+    tie.close
+    (tie.spec
+    refusal-of-requires
+    returns
+    inside-unsigned-requires
+    returns-2
+    inside-unsigned-requires-2
+    returns-3
+    cast-product-of
+    cast-product-of-2
+    product-of-requires
+    returns-4)

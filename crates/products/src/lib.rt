@@ -1,0 +1,83 @@
+// Products by the four designs. `unsigned_product` and `signed_product` take any numbers and give the product or the number of
+// the refusal; the kernels below them work on magnitudes of up to 32 bits and never refuse.
+ghost use mathlib.Core.Path.{_≡_};
+ghost use Rattle.designs.specs.Outcomes.{designOf, unsignedOutcome, signedOutcome};
+ghost use Rattle.designs.specs.Signs.{signedProduct};
+ghost use Rattle.products.specs.Answers.{unsignedGiven, signedGiven};
+ghost use Rattle.products.specs.Steps.{Signable};
+
+mod bits;
+mod judgement;
+mod kernels;
+mod signs;
+
+pub use judgement::is_design;
+pub use judgement::takes_setting;
+pub use kernels::mitchell;
+pub use kernels::nearest;
+pub use kernels::product_of;
+pub use kernels::staged;
+pub use kernels::truncated;
+pub use signs::magnitude;
+pub use signs::opposite;
+
+// An unsigned product, or the number of the refusal.
+pub enum Unsigned {
+    Value(u64),
+    Refused(u32),
+}
+
+// A signed product, or the number of the refusal.
+pub enum Signed {
+    Value(i64),
+    Refused(u32),
+}
+
+// The design's product of two unsigned numbers of a width.
+pub fn unsigned_product(design: u32, width: u32, setting: u32, a: u64, b: u64) -> Unsigned
+    ensures { λ r. ⌜ unsignedGiven r ≡ unsignedOutcome design width setting a b ⌝ }
+{
+    let refusal = judgement::refusal_of(design, width, setting);
+    if refusal != 0 {
+        return Unsigned::Refused(refusal);
+    }
+    if !judgement::inside_unsigned(width, a) {
+        return Unsigned::Refused(judgement::OPERAND);
+    }
+    if !judgement::inside_unsigned(width, b) {
+        return Unsigned::Refused(judgement::OPERAND);
+    }
+    Unsigned::Value(kernels::product_of(design, setting, a as u32, b as u32))
+}
+
+// The design's product of two signed numbers of a width: the design works on the sizes, and the product is negative when
+// exactly one operand is.
+pub fn signed_product(design: u32, width: u32, setting: u32, a: i64, b: i64) -> Signed
+    ensures { λ r. ⌜ signedGiven r ≡ signedOutcome design width setting a b ⌝ }
+{
+    let refusal = judgement::refusal_of(design, width, setting);
+    if refusal != 0 {
+        return Signed::Refused(refusal);
+    }
+    if !judgement::inside_signed(width, a) {
+        return Signed::Refused(judgement::OPERAND);
+    }
+    if !judgement::inside_signed(width, b) {
+        return Signed::Refused(judgement::OPERAND);
+    }
+    Signed::Value(signed_of(design, setting, a, b))
+}
+
+// The signed product of an accepted setting and two operands of at most 32 bits.
+fn signed_of(design: u32, setting: u32, a: i64, b: i64) -> i64
+    requires { ⌜ Signable design setting a b ⌝ }
+    ensures { λ r. ⌜ r ≡ signedProduct (designOf design setting) a b ⌝ }
+{
+    let size = kernels::product_of(
+        design,
+        setting,
+        signs::magnitude(a) as u32,
+        signs::magnitude(b) as u32,
+    );
+    signs::with_sign(signs::opposite(a, b), size)
+}
