@@ -4,7 +4,7 @@ use mathlib.Core.List.{List, [], _∷_, map}
 use Prim.Native.Nat.{ℕ}
 use lib.IntN.{ℤ, pos, negℤ}
 use Rattle.designs.specs.Signs.{residue}
-use Rattle.designs.specs.Outcomes.{Outcome, accepted, unsignedOutcome, signedOutcome, designOf}
+use Rattle.designs.specs.Outcomes.{Outcome, accepted, refused, unsignedOutcome, signedOutcome, designOf}
 use Rattle.designs.specs.Rows.{Report, report, residues}
 
 -- What a figure asks, with the design, setting and width as the table has them: an unsigned product, a signed one, or a row.
@@ -53,3 +53,23 @@ figures =
 pub figures-hold : map (λ f. meaning (f .0)) figures ≡ map (λ f. f .1) figures
 unfolding meaning figures
 figures-hold = refl
+
+-- The sentences below the table, and the order of the refusals where several apply: an outcome, and what it should be.
+pub judged : List (Outcome ℤ × Outcome ℤ)
+unfolding signedOutcome
+judged =
+    (signedOutcome 3 8 8 (pos 7) (pos 7), accepted (pos 49))
+    ∷ (signedOutcome 3 8 0 (pos 7) (pos 7), refused 3)
+    ∷ (signedOutcome 3 8 9 (pos 7) (pos 7), refused 3)
+    ∷ (signedOutcome 4 8 7 (pos 16) (pos 16), accepted (pos 258))
+    ∷ (signedOutcome 4 8 8 (pos 16) (pos 16), refused 3)
+    ∷ (signedOutcome 1 8 0 (− 128) (pos 1), accepted (− 128))
+    ∷ (signedOutcome 1 8 0 (pos 128) (pos 1), refused 4)
+    ∷ (signedOutcome 1 8 1 (pos 128) (pos 1), refused 3)
+    ∷ (signedOutcome 1 7 1 (pos 128) (pos 1), refused 2)
+    ∷ (signedOutcome 5 7 1 (pos 128) (pos 1), refused 1)
+    ∷ []
+
+pub judged-hold : map (λ j. j .0) judged ≡ map (λ j. j .1) judged
+unfolding judged
+judged-hold = refl

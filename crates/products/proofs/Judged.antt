@@ -14,7 +14,7 @@ use Rattle.designs.specs.Outcomes.{Outcome, accepted, refused, unlessRefused, f
 use Rattle.designs.proofs.Cases.{either-lt}
 use Rattle.designs.proofs.Widths.{KeepsBit}
 use Rattle.products.specs.Answers.{settingRefusal}
-use Rattle.products.specs.Steps.{served}
+use Rattle.kernels.specs.Steps.{served}
 
 -- below w is at most w − 1
 pub below : (s w : ℕ) → 1 ≤ s → ltb s w ≡ leb s (w - 1)

@@ -54,13 +54,16 @@ pub fn takes_setting(design: u32, width: u32, setting: u32) -> bool
 pub(crate) fn refusal_of(design: u32, width: u32, setting: u32) -> u32
     ensures { λ r. ⌜ r ≡ settingRefusal design width setting ⌝ }
 {
-    if !is_design(design) {
+    let known = is_design(design);
+    let listed = is_width(width);
+    let taken = takes_setting(design, width, setting);
+    if !known {
         return DESIGN;
     }
-    if !is_width(width) {
+    if !listed {
         return WIDTH;
     }
-    if !takes_setting(design, width, setting) {
+    if !taken {
         return SETTING;
     }
     0
@@ -70,14 +73,14 @@ pub(crate) fn inside_unsigned(width: u32, a: u64) -> bool
     requires { ⌜ width ≤ 32 ⌝ }
     ensures { λ r. ⌜ r ≡ insideUnsigned width a ⌝ }
 {
-    a <= crate::bits::power(width) - 1
+    a <= (1u64 << width) - 1
 }
 
 pub(crate) fn inside_signed(width: u32, a: i64) -> bool
     requires { ⌜ (1 ≤ width) × (width ≤ 32) ⌝ }
     ensures { λ r. ⌜ r ≡ insideSigned width a ⌝ }
 {
-    let half = crate::bits::power(width - 1);
+    let half = 1u64 << (width - 1);
     let size = crate::signs::magnitude(a);
     if a < 0 {
         return size <= half;

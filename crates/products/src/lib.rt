@@ -1,14 +1,12 @@
-// Products by the four designs. `unsigned_product` and `signed_product` take any numbers and give the product or the number of
-// the refusal; the kernels below them work on magnitudes of up to 32 bits and never refuse.
+// Products by the four designs, unsigned and signed (document 01, "Product, unsigned or signed"). Both operations take any numbers
+// and give the product or the number of the first refusal that applies.
 ghost use mathlib.Core.Path.{_≡_};
 ghost use Rattle.designs.specs.Outcomes.{designOf, unsignedOutcome, signedOutcome};
 ghost use Rattle.designs.specs.Signs.{signedProduct};
 ghost use Rattle.products.specs.Answers.{unsignedGiven, signedGiven};
-ghost use Rattle.products.specs.Steps.{Signable};
+ghost use Rattle.products.specs.Signable.{Signable};
 
-mod bits;
 mod judgement;
-mod kernels;
 mod signs;
 
 pub use judgement::is_design;

@@ -56,7 +56,7 @@ unfolding signedProduct
 returns c =
     let start = c .before .before .before .before .before in
     read-back (c .with-sign .result) (c .with-sign .ok) ∙ c .with-sign .ensures
-    ∙ ap₂ (λ (s : Bool) (n : ℕ). withSign s n) (rw (toZ-ofZ (start .fits .a), toZ-ofZ (start .fits .b)) at (c .before .opposite .ensures)) (size (c .before .before))
+    ∙ ap₂ (λ (s : Bool) (n : ℕ). withSign s n) (simp (toZ-ofZ (start .fits .a), toZ-ofZ (start .fits .b)) at (c .before .opposite .ensures)) (size (c .before .before))
 
 pub signed-of-spec : {M : Type 1} → statement M
 signed-of-spec =

@@ -26,10 +26,12 @@ settled c = accept _ _ _ (sym (c .before .refusal-of .ensures) ∙ c .if1 .left)
 
 -- the tests of the operands, which are read back from their bits
 first-test : (c : tie.After-inside-signed) → c .inside-signed .result ≡ first (c .before .before .before)
-first-test c = rw (toZ-ofZ (c .before .before .before .fits .a)) at (c .inside-signed .ensures)
+first-test c = simp (toZ-ofZ (c .before .before .before .fits .a)) at (c .inside-signed .ensures)
 
 second-test : (c : tie.After-inside-signed2) → c .inside-signed2 .result ≡ second (c .before .before .before .before .before)
-second-test c = rw (toZ-ofZ (c .before .before .before .before .before .fits .b)) at (c .inside-signed2 .ensures)
+second-test c =
+    let start = c .before .before .before .before .before in
+    simp (toZ-ofZ (start .fits .a), toZ-ofZ (start .fits .b)) at (c .inside-signed2 .ensures)
 
 -- both operands are inside the width
 first-holds : (c : tie.Else2) → first (c .before .before .before .before) ≡ true
@@ -84,7 +86,7 @@ returns-4 c =
     let inside = c .before in
     let start = inside .before .before .before .before .before .before in
     let setting = settled (inside .before .before .before .before) in
-    ap accepted (read-back (c .signed-of .result) (c .signed-of .ok) ∙ (rw (toZ-ofZ (start .fits .a), toZ-ofZ (start .fits .b)) at (c .signed-of .ensures)))
+    ap accepted (read-back (c .signed-of .result) (c .signed-of .ok) ∙ (simp (toZ-ofZ (start .fits .a), toZ-ofZ (start .fits .b)) at (c .signed-of .ensures)))
     ∙ by-value _ _ _ (value start) (first start) (second start) setting (first-holds (inside .before .before)) (second-holds inside)
 
 pub signed-product-spec : {M : Type 1} → statement M

@@ -1,7 +1,7 @@
 -- `inside_signed` makes the test of `insideSigned`, a case for each sign. Assumes nothing.
 use borrow.Author.Needs.{needs}
 use mathlib.Core.Path.{_≡_, refl, sym}
-use Prim.Native.Nat.{ℕ, _-_, _^_}
+use Prim.Native.Nat.{ℕ, _-_, _*_, _%_, _^_}
 use mathlib.Core.Bool.{true, false, false≢true}
 use lib.Dec.{leb}
 use lib.IntN.{ℤ, pos, negsuc, natAbs}
@@ -9,7 +9,9 @@ use lib.Pow.{pow-pos}
 use mir.Facts.{toZ-ofZ}
 use Rattle.designs.specs.Outcomes.{insideSigned}
 use Rattle.designs.specs.Signs.{negative}
+use Rattle.kernels.proofs.Powers.{one-shifted}
 use Rattle.products.proofs.Integers.{tested}
+use native.Mathlib.Omega.{arith}
 use Rattle.products.proofs.judgement.inside_signed.Statement.{statement}
 use Rattle.products.proofs.judgement.inside_signed.Tie as tie
 
@@ -21,30 +23,37 @@ plus-inside : (w : ℕ) (a : ℤ) → negative a ≡ false → leb (natAbs a) (2
 plus-inside w (pos n) e = refl
 plus-inside w (negsuc n) e = absurd (false≢true (sym e))
 
-sub-power : tie.Need-sub-power
-sub-power c = search needs
+half : (c : tie.Start) → (1 * 2 ^ (c .args .width - 1)) % 2 ^ 64 ≡ 2 ^ (c .args .width - 1)
+half c = one-shifted (c .args .width - 1) 64 (omega arith)
 
-power-requires : tie.Need-power-requires
-power-requires c κs = search needs
+sub-half : tie.Need-sub-half
+sub-half c = search needs
+
+cast-half : tie.Need-cast-half
+cast-half c = search needs
+
+shl-half : tie.Need-shl-half
+shl-half c = search needs
 
 magnitude-requires : tie.Need-magnitude-requires
 magnitude-requires c κs = search needs
 
 returns : tie.Need-returns
 returns c =
-    let start = c .before .before .before in
-    rw (c .before .magnitude .ensures, c .before .before .power .ensures, toZ-ofZ (start .fits .a))
+    let start = c .before .before in
+    rw (c .before .magnitude .ensures, half start, toZ-ofZ (start .fits .a))
     (minus-inside (start .args .width) (start .args .a) (tested (start .args .a) (start .fits .a) (c .if1 .taken)))
 
 sub-result : tie.Need-sub-result
-sub-result c = rw (c .before .before .power .ensures) (pow-pos _)
+sub-result c = rw (half (c .before .before)) (pow-pos _)
 
 returns-2 : tie.Need-returns-2
 returns-2 c =
-    let start = c .before .before .before in
-    rw (c .before .magnitude .ensures, c .before .before .power .ensures, toZ-ofZ (start .fits .a))
+    let start = c .before .before in
+    rw (c .before .magnitude .ensures, half start, toZ-ofZ (start .fits .a))
     (plus-inside (start .args .width) (start .args .a) (tested (start .args .a) (start .fits .a) (c .if1 .left)))
 
 pub inside-signed-spec : {M : Type 1} → statement M
 inside-signed-spec =
-    tie.close (tie.spec sub-power power-requires magnitude-requires returns sub-result returns-2)
+    tie.close
+    (tie.spec sub-half cast-half shl-half magnitude-requires returns sub-result returns-2)

@@ -4,10 +4,10 @@ use Rattle.products.proofs.judgement.is_design.Statement.{statement}
 use Rattle.products.proofs.judgement.is_design.Tie as tie
 
 returns : tie.Need-returns
-returns c = simp (lt-leb _ _ (c .if1 .taken))
+returns c = simp (lt-leb 1 (c .before .args .design) (c .if1 .taken))
 
 returns-2 : tie.Need-returns-2
-returns-2 c = simp (le-leb _ _ (c .if1 .left))
+returns-2 c = simp (le-leb 1 (c .before .args .design) (c .if1 .left))
 
 pub is-design-spec : {M : Type 1} → statement M
 is-design-spec = tie.close (tie.spec returns returns-2)

@@ -1,0 +1,5 @@
+pub mod Powers
+pub mod Carry
+pub mod Wrapping
+pub mod Stages
+pub mod Truncation

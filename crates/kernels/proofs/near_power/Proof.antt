@@ -1,0 +1,48 @@
+-- `near_power` reads the leading two bits of 2 × x. Assumes nothing.
+use borrow.Author.Needs.{needs}
+use mathlib.Core.Path.{_≡_, _∙_}
+use Prim.Native.Nat.{_/_, _^_}
+use Rattle.kernels.proofs.Wrapping.{Lead, lead}
+use native.Mathlib.Omega.{arith}
+use Rattle.kernels.proofs.near_power.Statement.{statement}
+use Rattle.kernels.proofs.near_power.Tie as tie
+
+lead-at : (c : tie.After-shifted) → Lead (c .before .before .args .x) (c .before .log2-floor .result) (c .shifted .result / 2 ^ c .before .log2-floor .result)
+lead-at c = rw (c .shifted .ensures) (lead _ _ (c .before .before .pre) (c .before .log2-floor .ensures .is))
+
+log2-floor-requires : tie.Need-log2-floor-requires
+log2-floor-requires c κs = search needs
+
+shifted-requires : tie.Need-shifted-requires
+shifted-requires c κs = search needs
+
+cast-lead : tie.Need-cast-lead
+cast-lead c = search needs
+
+shr-lead : tie.Need-shr-lead
+shr-lead c = search needs
+
+cast-lead-2 : tie.Need-cast-lead-2
+cast-lead-2 c = omega (arith, lead-at c)
+
+sub-result : tie.Need-sub-result
+sub-result c = omega (arith, lead-at c)
+
+add-result : tie.Need-add-result
+add-result c = omega (arith, lead-at c)
+
+returns : tie.Need-returns
+returns c = record { is = lead-at c .is; small = omega (arith, lead-at c) }
+
+pub near-power-spec : {M : Type 1} → statement M
+near-power-spec =
+    tie.close
+    (tie.spec
+    log2-floor-requires
+    shifted-requires
+    cast-lead
+    shr-lead
+    cast-lead-2
+    sub-result
+    add-result
+    returns)

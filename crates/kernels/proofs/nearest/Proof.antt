@@ -1,0 +1,66 @@
+-- `nearest` computes modulo 2^64 what fits 64 bits. Assumes nothing.
+use borrow.Author.Needs.{needs}
+use mathlib.Core.Path.{_≡_, _∙_}
+use Rattle.designs.specs.Designs.{nearest}
+use Rattle.designs.proofs.Zeros.{zero-left, zero-right}
+use Rattle.kernels.proofs.Wrapping.{nearest-wrapped}
+use native.Mathlib.Omega.{arith}
+use Rattle.kernels.proofs.nearest.Statement.{statement}
+use Rattle.kernels.proofs.nearest.Tie as tie
+
+returns : tie.Need-returns
+returns c = zero-left nearest _ _ (c .if1 .taken)
+
+returns-2 : tie.Need-returns-2
+returns-2 c = zero-right nearest _ _ (c .if2 .taken)
+
+near-power-requires : tie.Need-near-power-requires
+near-power-requires c κs = search needs
+
+near-power-requires-2 : tie.Need-near-power-requires-2
+near-power-requires-2 c κs = search needs
+
+power-requires : tie.Need-power-requires
+power-requires c κs = search needs
+
+wrapping-sub-u64-requires : tie.Need-wrapping-sub-u64-requires
+wrapping-sub-u64-requires c κs = search needs
+
+shifted-requires : tie.Need-shifted-requires
+shifted-requires c κs = search needs
+
+cast-wrapping-add-u64 : tie.Need-cast-wrapping-add-u64
+cast-wrapping-add-u64 c = search needs
+
+shl-wrapping-add-u64 : tie.Need-shl-wrapping-add-u64
+shl-wrapping-add-u64 c = search needs
+
+wrapping-add-u64-requires : tie.Need-wrapping-add-u64-requires
+wrapping-add-u64-requires c κs = search needs
+
+returns-3 : tie.Need-returns-3
+returns-3 c =
+    let sub = c .before .before in
+    let powers = sub .before .before in
+    let start = powers .before .before .before .before in
+    c .wrapping-add-u64 .ensures
+    ∙ rw (c .before .shifted .ensures)
+    (nearest-wrapped 32 (start .args .a) (start .args .b) (powers .before .near-power .result) (powers .near-power2 .result) (sub .wrapping-sub-u64 .result)
+    (omega arith) (omega arith) (start .fits .a .fits) (start .fits .b .fits) (powers .before .near-power .ensures .is) (powers .near-power2 .ensures .is)
+    (rw (sub .before .power .ensures) at (sub .wrapping-sub-u64 .ensures)))
+
+pub nearest-spec : {M : Type 1} → statement M
+nearest-spec =
+    tie.close
+    (tie.spec
+    returns
+    returns-2
+    near-power-requires
+    near-power-requires-2
+    power-requires
+    wrapping-sub-u64-requires
+    shifted-requires
+    cast-wrapping-add-u64
+    shl-wrapping-add-u64
+    wrapping-add-u64-requires
+    returns-3)

@@ -1,0 +1,34 @@
+// Powers of two, shifts that lose nothing, and the floor of the logarithm.
+ghost use mathlib.Core.Path.{_≡_};
+ghost use Prim.Native.Nat.{_*_, _^_, _≤_, _<_};
+ghost use Rattle.designs.specs.Designs.{log2, rest};
+ghost use Rattle.kernels.specs.Steps.{Log2};
+
+pub(crate) fn power(k: u32) -> u64
+    requires { ⌜ k < 64 ⌝ }
+    ensures { λ r. ⌜ r ≡ 2 ^ k ⌝ }
+{
+    1u64 << k
+}
+
+pub(crate) fn shifted(x: u32, k: u32) -> u64
+    requires { ⌜ k ≤ 32 ⌝ }
+    ensures { λ r. ⌜ r ≡ x * 2 ^ k ⌝ }
+{
+    (x as u64) << k
+}
+
+pub(crate) fn log2_floor(x: u32) -> u32
+    requires { ⌜ 0 < x ⌝ }
+    ensures { λ r. ⌜ Log2 x r ⌝ }
+{
+    31 - u32::leading_zeros(x)
+}
+
+// x without its leading power of two.
+pub(crate) fn rest_of(x: u32, k: u32) -> u32
+    requires { ⌜ (0 < x) × (k ≡ log2 x) ⌝ }
+    ensures { λ r. ⌜ r ≡ rest x ⌝ }
+{
+    x - (1u32 << k)
+}

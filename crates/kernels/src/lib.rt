@@ -1,0 +1,149 @@
+// The four designs on magnitudes of up to 32 bits, whatever the width of the operands they come from. Every input is taken, so
+// nothing is refused here. The kernels shift and add; none multiplies.
+ghost use mathlib.Core.Path.{_≡_};
+ghost use Prim.Native.Nat.{min, _-_, _*_, _/_, _^_, _≤_, _<_};
+ghost use Rattle.designs.specs.Designs.{product, mitchell, nearest, staged, truncated};
+ghost use Rattle.designs.specs.Outcomes.{designOf};
+ghost use Rattle.designs.proofs.Fold.{fold};
+ghost use Rattle.kernels.specs.Steps.{served, NearPower};
+
+mod bits;
+
+use crate::bits::log2_floor;
+use crate::bits::power;
+use crate::bits::rest_of;
+use crate::bits::shifted;
+
+// Design 1, Mitchell.
+pub fn mitchell(a: u32, b: u32) -> u64
+    ensures { λ r. ⌜ r ≡ product mitchell a b ⌝ }
+{
+    if a == 0 {
+        return 0;
+    }
+    if b == 0 {
+        return 0;
+    }
+    let k = log2_floor(a);
+    let m = log2_floor(b);
+    let one = power(k + m);
+    // a × 2^m and b × 2^k each hold 2^(k+m); the product wants it once
+    folded(one, shifted(a, m) + shifted(b, k) - one)
+}
+
+// The sum one + s as it stands where s is below one, and otherwise 2 × s: the carry of designs 1 and 4.
+fn folded(one: u64, sum: u64) -> u64
+    requires { ⌜ (one ≤ sum) × (sum < 3 * one) × (one ≤ 2 ^ 62) ⌝ }
+    ensures { λ r. ⌜ r ≡ fold one sum ⌝ }
+{
+    if sum < one + one {
+        return sum;
+    }
+    let s = sum - one;
+    s + s
+}
+
+// Design 2, nearest power.
+pub fn nearest(a: u32, b: u32) -> u64
+    ensures { λ r. ⌜ r ≡ product nearest a b ⌝ }
+{
+    if a == 0 {
+        return 0;
+    }
+    if b == 0 {
+        return 0;
+    }
+    let k = near_power(a);
+    let m = near_power(b);
+    // b − 2^m may be negative and the product's parts may pass 2^64, so both sums are taken modulo 2^64; the product fits
+    let r = std::num::wrapping_sub_u64(b as u64, power(m));
+    std::num::wrapping_add_u64(shifted(a, m), r << k)
+}
+
+// The exponent of the power of two nearest to x, the higher one of two that are equally near.
+fn near_power(x: u32) -> u32
+    requires { ⌜ 0 < x ⌝ }
+    ensures { λ r. ⌜ NearPower x r ⌝ }
+{
+    let k = log2_floor(x);
+    // the leading two bits of 2 × x, 2 or 3: the second says whether x is at least halfway to 2^(k+1)
+    let lead = (shifted(x, 1) >> k) as u32;
+    k + (lead - 2)
+}
+
+// Design 3, staged: one stage, and what is left of both goes to the next.
+pub fn staged(stages: u32, a: u32, b: u32) -> u64
+    ensures { λ r. ⌜ r ≡ product (staged stages) a b ⌝ }
+{
+    if stages == 0 {
+        return 0;
+    }
+    if a == 0 {
+        return 0;
+    }
+    if b == 0 {
+        return 0;
+    }
+    let k = log2_floor(a);
+    let m = log2_floor(b);
+    let x = rest_of(a, k);
+    let y = rest_of(b, m);
+    // 2^(k+m) + x × 2^m is a × 2^m
+    let output = shifted(a, m) + shifted(y, k);
+    output + staged(stages - 1, x, y)
+}
+
+// Design 4, truncated, with at most 31 kept bits: all that a width of 32 takes.
+pub fn truncated(kept_bits: u32, a: u32, b: u32) -> u64
+    ensures { λ r. ⌜ r ≡ product (served (truncated «kept_bits»)) a b ⌝ }
+{
+    if a == 0 {
+        return 0;
+    }
+    if b == 0 {
+        return 0;
+    }
+    let t = at_most_31(kept_bits);
+    let k = log2_floor(a);
+    let m = log2_floor(b);
+    let one = power(t);
+    // each operand over its power is one and its kept fraction; the sum wants one of the two ones, and the carry of 1
+    let sum = (shifted(a, t) >> k) + (shifted(b, t) >> m) + 1 - one;
+    scaled(folded(one, sum), k + m, t)
+}
+
+fn at_most_31(t: u32) -> u32
+    ensures { λ r. ⌜ r ≡ min t 31 ⌝ }
+{
+    if t < 31 {
+        return t;
+    }
+    31
+}
+
+// x × 2^e / 2^t rounded down.
+fn scaled(x: u64, e: u32, t: u32) -> u64
+    requires { ⌜ (t < 64) × (e < 64) × (t ≤ e → x * 2 ^ (e - t) < 2 ^ 64) ⌝ }
+    ensures { λ r. ⌜ r ≡ 2 ^ e * x / 2 ^ t ⌝ }
+{
+    if t <= e {
+        return x << (e - t);
+    }
+    x >> (t - e)
+}
+
+// The product of design 1 to 4 with a setting; design 4 keeps at most 31 bits.
+pub fn product_of(design: u32, setting: u32, a: u32, b: u32) -> u64
+    ensures { λ r. ⌜ r ≡ product (served (designOf design setting)) a b ⌝ }
+{
+    if design == 1 {
+        return mitchell(a, b);
+    }
+    if design == 2 {
+        return nearest(a, b);
+    }
+    if design == 3 {
+        return staged(setting, a, b);
+    }
+    truncated(setting, a, b)
+}
