@@ -4,7 +4,8 @@ use mathlib.Core.List.{List, [], _∷_, map}
 use Prim.Native.Nat.{ℕ}
 use lib.IntN.{ℤ, pos, negℤ}
 use Rattle.designs.specs.Signs.{residue}
-use Rattle.designs.specs.Outcomes.{Outcome, accepted, refused, unsignedOutcome, signedOutcome, designOf}
+use Rattle.designs.specs.Outcomes.{Outcome, accepted, refused}
+use Rattle.designs.specs.Products.{unsignedOutcome, signedOutcome, designOf}
 use Rattle.designs.specs.Rows.{Report, report, residues}
 
 -- What a figure asks, with the design, setting and width as the table has them: an unsigned product, a signed one, or a row.

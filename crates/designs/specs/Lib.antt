@@ -1,5 +1,6 @@
 pub mod Designs
 pub mod Signs
 pub mod Outcomes
+pub mod Products
 pub mod Rows
 pub mod Figures

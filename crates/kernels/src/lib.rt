@@ -3,7 +3,7 @@
 ghost use mathlib.Core.Path.{_≡_};
 ghost use Prim.Native.Nat.{min, _-_, _*_, _/_, _^_, _≤_, _<_};
 ghost use Rattle.designs.specs.Designs.{product, mitchell, nearest, staged, truncated};
-ghost use Rattle.designs.specs.Outcomes.{designOf};
+ghost use Rattle.designs.specs.Products.{designOf};
 ghost use Rattle.designs.proofs.Fold.{fold};
 ghost use Rattle.kernels.specs.Steps.{served, NearPower};
 

@@ -10,7 +10,8 @@ use lib.Dec.{leb, ltb, eqb}
 use lib.IntN.{ℤ, pos, negsuc, natAbs}
 use lib.Pow.{pow-mono, pow-pos}
 use Rattle.designs.specs.Designs.{Design, mitchell, nearest, staged, truncated}
-use Rattle.designs.specs.Outcomes.{Outcome, accepted, refused, unlessRefused, first, refusals, isDesign, isWidth, designOf, takesSetting, insideUnsigned, insideSigned}
+use Rattle.designs.specs.Outcomes.{Outcome, accepted, refused, unlessRefused, first}
+use Rattle.designs.specs.Products.{refusals, isDesign, isWidth, designOf, takesSetting, insideUnsigned, insideSigned}
 use Rattle.designs.proofs.Cases.{either-lt}
 use Rattle.designs.proofs.Widths.{KeepsBit}
 use Rattle.products.specs.Answers.{settingRefusal}

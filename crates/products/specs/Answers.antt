@@ -2,7 +2,8 @@
 use Prim.Native.Nat.{ℕ}
 use lib.IntN.{ℤ}
 use mathlib.Core.Bool.{true}
-use Rattle.designs.specs.Outcomes.{Outcome, accepted, refused, first, refusals}
+use Rattle.designs.specs.Outcomes.{Outcome, accepted, refused, first}
+use Rattle.designs.specs.Products.{refusals}
 use Rattle.products.specs.declared.Unsigned.{Unsigned}
 use Rattle.products.specs.declared.Unsigned.the-variants as U
 use Rattle.products.specs.declared.Signed.{Signed}

@@ -2,7 +2,7 @@
 use mathlib.Core.Path.{_≡_}
 use Prim.Native.Nat.{ℕ, _^_, _≤_}
 use lib.IntN.{ℤ, natAbs}
-use Rattle.designs.specs.Outcomes.{designOf}
+use Rattle.designs.specs.Products.{designOf}
 use Rattle.designs.proofs.Widths.{KeepsBit}
 use Rattle.kernels.specs.Steps.{served}
 

@@ -1,7 +1,7 @@
 // What input a product takes, test by test in the order of document 01, "Product, unsigned or signed".
 ghost use mathlib.Core.Path.{_≡_};
 ghost use Prim.Native.Nat.{_≤_};
-ghost use Rattle.designs.specs.Outcomes.{isDesign, isWidth, takesSetting, insideUnsigned, insideSigned};
+ghost use Rattle.designs.specs.Products.{isDesign, isWidth, takesSetting, insideUnsigned, insideSigned};
 ghost use Rattle.products.specs.Answers.{settingRefusal};
 
 // The refusal numbers.

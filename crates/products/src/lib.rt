@@ -1,7 +1,7 @@
 // Products by the four designs, unsigned and signed (document 01, "Product, unsigned or signed"). Both operations take any numbers
 // and give the product or the number of the first refusal that applies.
 ghost use mathlib.Core.Path.{_≡_};
-ghost use Rattle.designs.specs.Outcomes.{designOf, unsignedOutcome, signedOutcome};
+ghost use Rattle.designs.specs.Products.{designOf, unsignedOutcome, signedOutcome};
 ghost use Rattle.designs.specs.Signs.{signedProduct};
 ghost use Rattle.products.specs.Answers.{unsignedGiven, signedGiven};
 ghost use Rattle.products.specs.Signable.{Signable};

@@ -7,7 +7,7 @@ use mathlib.Core.Bool.{Bool}
 use mir.Facts.{toZ-ofZ}
 use Rattle.designs.specs.Designs.{Design, product}
 use Rattle.designs.specs.Signs.{signedProduct, withSign}
-use Rattle.designs.specs.Outcomes.{designOf}
+use Rattle.designs.specs.Products.{designOf}
 use Rattle.designs.proofs.Widths.{size-lt}
 use Rattle.products.proofs.Integers.{read-back}
 use native.Mathlib.Omega.{arith}

@@ -5,7 +5,8 @@ use mathlib.Core.Bool.{Bool, true}
 use lib.IntN.{ℤ}
 use mir.Facts.{toZ-ofZ}
 use Rattle.designs.specs.Signs.{signedProduct}
-use Rattle.designs.specs.Outcomes.{accepted, designOf, insideSigned, signedOutcome}
+use Rattle.designs.specs.Outcomes.{accepted}
+use Rattle.designs.specs.Products.{designOf, insideSigned, signedOutcome}
 use Rattle.products.proofs.Integers.{read-back}
 use Rattle.products.proofs.Judged.{Accepted, accept, by-setting, by-operand, by-value, fails, holds, signed-size}
 use Rattle.products.proofs.signed_product.Statement.{statement}

@@ -4,7 +4,8 @@ use mathlib.Core.Path.{_≡_, sym, ap, _∙_}
 use Prim.Native.Nat.{ℕ}
 use mathlib.Core.Bool.{Bool, true}
 use Rattle.designs.specs.Designs.{Design, product}
-use Rattle.designs.specs.Outcomes.{accepted, designOf, insideUnsigned, unsignedOutcome}
+use Rattle.designs.specs.Outcomes.{accepted}
+use Rattle.designs.specs.Products.{designOf, insideUnsigned, unsignedOutcome}
 use Rattle.products.proofs.Judged.{Accepted, accept, by-setting, by-operand, by-value, fails, holds, unsigned-size}
 use Rattle.products.proofs.unsigned_product.Statement.{statement}
 use Rattle.products.proofs.unsigned_product.Tie as tie

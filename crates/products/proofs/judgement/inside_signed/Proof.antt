@@ -7,7 +7,7 @@ use lib.Dec.{leb}
 use lib.IntN.{ℤ, pos, negsuc, natAbs}
 use lib.Pow.{pow-pos}
 use mir.Facts.{toZ-ofZ}
-use Rattle.designs.specs.Outcomes.{insideSigned}
+use Rattle.designs.specs.Products.{insideSigned}
 use Rattle.designs.specs.Signs.{negative}
 use Rattle.kernels.proofs.Powers.{one-shifted}
 use Rattle.products.proofs.Integers.{tested}

@@ -1,0 +1,31 @@
+-- The struct is laid out case by case as `unsignedStruct` lays out the outcome. Assumes nothing.
+use borrow.Author.Needs.{needs}
+use mathlib.Core.Path.{_≡_, sym, ap, _∙_}
+
+use Rattle.products.specs.declared.Unsigned.{Unsigned}
+use Rattle.products.specs.Answers.{unsignedGiven}
+use Rattle.capi.specs.Structs.{unsignedStruct}
+use Rattle.capi.proofs.highvane_product_unsigned.Statement.{statement}
+use Rattle.capi.proofs.highvane_product_unsigned.Tie as tie
+
+unsigned-product-requires : tie.Need-unsigned-product-requires
+unsigned-product-requires c κs = search needs
+
+enum-known-answer : tie.Need-enum-known-answer
+enum-known-answer c = search needs
+
+enum-known-answer-2 : tie.Need-enum-known-answer-2
+enum-known-answer-2 c = search needs
+
+returns : tie.Need-returns
+returns c =
+    sym (ap (λ (x : Unsigned). unsignedStruct (unsignedGiven x)) (c .before .answer .given .1)) ∙ ap unsignedStruct (c .before .before .before .unsigned-product .ensures)
+
+returns-2 : tie.Need-returns-2
+returns-2 c =
+    sym (ap (λ (x : Unsigned). unsignedStruct (unsignedGiven x)) (c .before .answer2 .given .1)) ∙ ap unsignedStruct (c .before .before .before .unsigned-product .ensures)
+
+pub highvane-product-unsigned-spec : {M : Type 1} → statement M
+highvane-product-unsigned-spec =
+    tie.close
+    (tie.spec unsigned-product-requires enum-known-answer enum-known-answer-2 returns returns-2)

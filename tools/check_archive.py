@@ -1,0 +1,70 @@
+#!/usr/bin/env python3
+"""Check the compiled archive of the C interface, and print the bytes of each function.
+
+The chip has no multiplier, so no function that computes a design's product may hold a multiply instruction. The archive must also
+need nothing from outside (no undefined symbol) and hold no data, so that it can go into ROM as it is.
+
+Usage: python3 tools/check_archive.py ARCHIVE     (rt staticlib capi writes target/staticlib/libcapi.a)
+"""
+import re
+import subprocess
+import sys
+
+# every multiply of x86-64: mul, imul, mulx, and the vector ones (pmuludq, vpmulld, mulps, ..)
+MULTIPLY = re.compile(r'v?p?i?mul\w*|v?pmadd\w*|vf[n]?m(?:add|sub)\w*')
+# sections with bytes of their own that are neither code nor notes
+DATA = re.compile(r'\.(data|rodata|bss|tdata|tbss|init_array|fini_array)\b')
+
+
+def output(*command):
+    return subprocess.run(command, check=True, capture_output=True, text=True).stdout
+
+
+def functions(archive):
+    """The instructions of each function, and how many bytes it has."""
+    code, name = {}, None
+    for line in output('objdump', '-d', '--no-show-raw-insn', archive).splitlines():
+        head = re.match(r'[0-9a-f]+ <(.+)>:$', line)
+        if head:
+            name = head.group(1)
+            code[name] = []
+        instruction = re.match(r'\s+[0-9a-f]+:\s+(\S+)', line)
+        if instruction and name:
+            code[name].append(instruction.group(1))
+    sizes = {}
+    for line in output('nm', '--print-size', '--defined-only', archive).splitlines():
+        symbol = re.match(r'[0-9a-f]+ ([0-9a-f]+) [Tt] (.+)$', line)
+        if symbol:
+            sizes[symbol.group(2)] = int(symbol.group(1), 16)
+    return code, sizes
+
+
+def main():
+    if len(sys.argv) != 2:
+        sys.exit('usage: check_archive.py ARCHIVE')
+    archive = sys.argv[1]
+    code, sizes = functions(archive)
+    wrong = []
+    if not any(name.startswith('highvane_') for name in code):
+        wrong.append('no exported function was found')
+    for name, instructions in code.items():
+        found = sorted({i for i in instructions if MULTIPLY.fullmatch(i)})
+        if found:
+            wrong.append(f'{name} multiplies: {", ".join(found)}')
+    undefined = output('nm', '--undefined-only', archive).split()[1:]
+    if undefined:
+        wrong.append('undefined symbols: ' + ' '.join(undefined))
+    for line in output('size', '-A', archive).splitlines():
+        fields = line.split()
+        if len(fields) == 3 and DATA.match(fields[0]) and fields[1] != '0':
+            wrong.append(f'data: section {fields[0]} of {fields[1]} bytes')
+    for name in sorted(sizes):
+        print(f'{sizes[name]:6} bytes, {len(code[name]):4} instructions  {name}')
+    for line in wrong:
+        print('check_archive:', line, file=sys.stderr)
+    if wrong:
+        sys.exit(1)
+    print(f'{len(code)} functions: no multiply instruction, no undefined symbol, no data')
+
+
+main()
