@@ -17,23 +17,47 @@ pub struct SignedProduct {
 }
 
 #[no_mangle]
-pub extern "C" fn highvane_product_unsigned(design: u32, width: u32, setting: u32, a: u64, b: u64) -> UnsignedProduct
+pub extern "C" fn highvane_product_unsigned(
+    design: u32,
+    width: u32,
+    setting: u32,
+    a: u64,
+    b: u64,
+) -> UnsignedProduct
     ensures { λ r. ⌜ r ≡ unsignedStruct (unsignedOutcome design width setting a b) ⌝ }
 {
     let answer = products::unsigned_product(design, width, setting, a, b);
     match answer {
-        products::Unsigned::Value(product) => UnsignedProduct { product, refusal: 0 },
-        products::Unsigned::Refused(refusal) => UnsignedProduct { product: 0, refusal },
+        products::Unsigned::Value(product) => UnsignedProduct {
+            product,
+            refusal: 0,
+        },
+        products::Unsigned::Refused(refusal) => UnsignedProduct {
+            product: 0,
+            refusal,
+        },
     }
 }
 
 #[no_mangle]
-pub extern "C" fn highvane_product_signed(design: u32, width: u32, setting: u32, a: i64, b: i64) -> SignedProduct
+pub extern "C" fn highvane_product_signed(
+    design: u32,
+    width: u32,
+    setting: u32,
+    a: i64,
+    b: i64,
+) -> SignedProduct
     ensures { λ r. ⌜ r ≡ signedStruct (signedOutcome design width setting a b) ⌝ }
 {
     let answer = products::signed_product(design, width, setting, a, b);
     match answer {
-        products::Signed::Value(product) => SignedProduct { product, refusal: 0 },
-        products::Signed::Refused(refusal) => SignedProduct { product: 0, refusal },
+        products::Signed::Value(product) => SignedProduct {
+            product,
+            refusal: 0,
+        },
+        products::Signed::Refused(refusal) => SignedProduct {
+            product: 0,
+            refusal,
+        },
     }
 }

@@ -1,14 +1,13 @@
 -- Design 2. An operand A stands below the power P taken for it by at most A / 3, or above it by less than A / 3 (`Near`).
 -- In integers the product is A × Q + B × P − P × Q, which `Near` keeps from falling below 0, and its residue is q × r.
 -- Assumes nothing.
-use mathlib.Core.Path.{_≡_, refl, sym, ap, ap₂, _∙_, subst}
-use Prim.Native.Nat.{ℕ, zero, suc, _+_, _-_, _*_, _^_, _≤_, _<_}
+use mathlib.Core.Path.{_≡_, sym, ap, _∙_, subst}
+use Prim.Native.Nat.{ℕ, _+_, _-_, _*_, _^_, _≤_, _<_}
 use native.Mathlib.Nat.{mul-le-mul, mul-le-mul-left, mul-le-mul-right}
-use native.Mathlib.Numerals.{add-one}
 use native.Mathlib.Omega.{arith}
 use mathlib.Core.Bool.{Bool, true, false, cond}
 use lib.Dec.{leb}
-use lib.IntN.{ℤ, pos, negsuc, natAbs, _+ℤ_, _-ℤ_, _*ℤ_}
+use lib.IntN.{pos, natAbs, _+ℤ_, _-ℤ_, _*ℤ_}
 use lib.Pow.{pow-add}
 use Rattle.designs.specs.Designs.{log2, rest, nearPower, offset, nearestℤ, byNearest, nearest, formula}
 use Rattle.designs.specs.Signs.{residue}

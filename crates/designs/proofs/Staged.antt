@@ -1,6 +1,6 @@
 -- Design 3. One stage takes 2^(k+m) + a × 2^m + b × 2^k off the product and leaves a × b, so after s stages
 -- the product of what is left of the two operands is missing, and nothing else. Assumes nothing.
-use mathlib.Core.Path.{_≡_, refl, sym, ap, ap₂, _∙_}
+use mathlib.Core.Path.{_≡_, refl, sym, ap₂, _∙_}
 use Prim.Native.Nat.{ℕ, zero, suc, _+_, _*_, _^_, _<_}
 use native.Mathlib.Omega.{arith}
 use lib.IntN.{pos}

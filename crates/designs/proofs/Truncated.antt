@@ -1,14 +1,13 @@
 -- Design 4 in the order in which it is computed. An operand shifted up by t and down by k is 2^t and its kept fraction; the sum
 -- of both is folded as in design 1; and × 2^e / 2^t is one shift by the difference of e and t. Assumes nothing.
 use mathlib.Core.Path.{_≡_, refl, sym, ap, _∙_}
-use Prim.Native.Nat.{ℕ, suc, _+_, _-_, _*_, _/_, _^_, _≤_, _<_}
+use Prim.Native.Nat.{ℕ, _+_, _-_, _*_, _/_, _^_, _≤_, _<_}
 use native.Mathlib.Nat.{add-sub-of-le, add-mul-div-right, div-lt-iff-lt-mul, le-of-lt, le-trans, lt-of-lt-of-le, mul-div-cancel-left, mul-div-mul-left, mul-le-mul, mul-le-mul-left, mul-le-mul-right}
 use native.Mathlib.Omega.{arith}
 use mathlib.Core.Bool.{Bool, true, false, cond}
 use lib.Dec.{ltb}
 use lib.Pow.{pow-add, pow-mono, pow-pos}
 use Rattle.designs.specs.Designs.{log2, rest, kept, byTruncation}
-use Rattle.designs.proofs.Cases.{by-lt}
 use Rattle.designs.proofs.Fold.{fold, fold-is, fold-lt}
 use Rattle.designs.proofs.Parts.{parts, rest-lt, log2-double}
 

@@ -1,21 +1,19 @@
 -- A product of u-bit and v-bit magnitudes has at most u + v bits, in every design and setting: designs 1 and 3 fall short of the
 -- true product, design 2 of a product of powers or of the true one, and design 4 of 4 × 2^(k+m). Assumes nothing.
 use mathlib.Core.Path.{_≡_, ap, _∙_, subst}
-use Prim.Native.Nat.{ℕ, zero, suc, _+_, _-_, _*_, _/_, _^_, _≤_, _<_}
+use Prim.Native.Nat.{ℕ, _+_, _*_, _/_, _^_, _≤_, _<_}
 use native.Mathlib.Nat.{mul-le-mul, mul-le-mul-left, mul-le-mul-right, div-lt-iff-lt-mul, mul-pos, le-antisymm, zero-div}
 use native.Mathlib.Omega.{arith}
-use mathlib.Core.Bool.{cond}
-use lib.Dec.{leb}
 use lib.Pow.{pow-add, pow-lt, pow-mono, pow-pos}
-use Rattle.designs.specs.Designs.{Design, mitchell, nearest, staged, truncated, log2, rest, nearPower, byMitchell, byNearest, byStages, kept, byTruncation, formula, product}
+use Rattle.designs.specs.Designs.{Design, mitchell, nearest, staged, truncated, log2, rest, nearPower, byNearest, kept, byTruncation, formula, product}
 use Rattle.designs.proofs.Cases.{by-le, by-lt, either-lt}
-use Rattle.designs.proofs.Parts.{parts, rest-lt, log2-le, log2-is, log2-below, log2-double}
+use Rattle.designs.proofs.Parts.{parts, log2-is, log2-below, log2-double}
 use Rattle.designs.proofs.Zeros.{by-zero, product-is}
 use Rattle.designs.proofs.Mitchell.{mitchell-short}
 use Rattle.designs.proofs.Nearest.{Near, under, over, near-is, at, nearest-at}
 use Rattle.designs.proofs.Staged.{stages-leave}
 use Rattle.designs.proofs.Fold.{fold, fold-is, fold-lt}
-use Rattle.designs.proofs.Truncated.{kept-lt, total, total-lt, truncation-at}
+use Rattle.designs.proofs.Truncated.{total, total-lt, truncation-at}
 
 -- the exponent of the nearest power is at most the width
 pub nearPower-below : (w A : ℕ) → 0 < A → A < 2 ^ w → nearPower A ≤ w

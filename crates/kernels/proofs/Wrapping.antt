@@ -1,8 +1,8 @@
 -- What design 2's kernel computes modulo M = 2^64. The offset r = B − 2^M may wrap, but every multiple of M that it brings in
 -- drops out of the sum again, and the product itself is below M; the leading two bits of 2 × x say which power is nearest.
 -- Assumes nothing.
-use mathlib.Core.Path.{_≡_, refl, sym, ap, _∙_}
-use Prim.Native.Nat.{ℕ, suc, _+_, _-_, _*_, _/_, _%_, _^_, _≤_, _<_}
+use mathlib.Core.Path.{_≡_, sym, ap, _∙_}
+use Prim.Native.Nat.{ℕ, _+_, _-_, _*_, _/_, _%_, _^_, _≤_, _<_}
 use native.Mathlib.Nat.{add-mod-mod, add-mul-div-right, add-mul-mod-self-right, div-add-mod', div-eq-of-lt, div-eq-of-lt-le, mod-eq-of-lt}
 use native.Mathlib.Omega.{arith}
 use borrow.Author.Tests.{le-leb, lt-leb}

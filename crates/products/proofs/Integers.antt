@@ -1,11 +1,10 @@
 -- Signed machine numbers: their sign tests, their sizes, and what fits an i64. Each law goes by the two constructors of ℤ.
 -- Assumes nothing.
-use mathlib.Core.Path.{_≡_, refl, sym, ap, _∙_, subst}
-use Prim.Native.Nat.{ℕ, zero, suc, _+_, _-_, _^_, _≤_, _<_}
-use native.Mathlib.Nat.{add-zero, lt-of-le-of-lt}
+use mathlib.Core.Path.{_≡_, refl, sym, _∙_}
+use Prim.Native.Nat.{ℕ, zero, suc, _-_, _^_, _≤_, _<_}
 use native.Mathlib.Omega.{arith}
 use mathlib.Core.Bool.{Bool, true, false, false≢true}
-use lib.Dec.{T, leb, ltb, leb·zero, leb·suc-zero}
+use lib.Dec.{T, leb·zero, leb·suc-zero}
 use lib.IntN.{ℤ, pos, negsuc, negℤ, natAbs, _-ℤ_, +ℤ-idl}
 use lib.Ieee.{unlike}
 use lib.Signed.{ltZ, leZ, mag, nonNeg}
@@ -13,7 +12,7 @@ use mir.Syntax.{w64}
 use mir.Val.{SFits, toZ, ofZ}
 use mir.Facts.{toZ-ofZ}
 use Rattle.designs.specs.Signs.{negative, withSign}
-use Rattle.designs.proofs.Differences.{gap, whole, is-pos, gap-eq, add-gap}
+use Rattle.designs.proofs.Differences.{gap, is-pos}
 
 -- the machine's sign test
 below-zero : (x : ℤ) → ltZ x (pos 0) ≡ negative x

@@ -1,7 +1,6 @@
 -- The struct is laid out case by case as `unsignedStruct` lays out the outcome. Assumes nothing.
 use borrow.Author.Needs.{needs}
-use mathlib.Core.Path.{_≡_, sym, ap, _∙_}
-
+use mathlib.Core.Path.{sym, ap, _∙_}
 use Rattle.products.specs.declared.Unsigned.{Unsigned}
 use Rattle.products.specs.Answers.{unsignedGiven}
 use Rattle.capi.specs.Structs.{unsignedStruct}

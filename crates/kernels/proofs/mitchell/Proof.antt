@@ -1,7 +1,6 @@
 -- `mitchell` adds both shifted operands and folds what is more than 2^(k+m). Assumes nothing.
 use borrow.Author.Needs.{needs}
-use mathlib.Core.Path.{_≡_, _∙_}
-use Prim.Native.Nat.{_+_, _*_, _^_}
+use mathlib.Core.Path.{_∙_}
 use Rattle.designs.specs.Designs.{mitchell}
 use Rattle.designs.proofs.Zeros.{zero-left, zero-right}
 use Rattle.kernels.proofs.Carry.{Sum, sum}

@@ -1,6 +1,5 @@
 -- `near_power` reads the leading two bits of 2 × x. Assumes nothing.
 use borrow.Author.Needs.{needs}
-use mathlib.Core.Path.{_≡_, _∙_}
 use Prim.Native.Nat.{_/_, _^_}
 use Rattle.kernels.proofs.Wrapping.{Lead, lead}
 use native.Mathlib.Omega.{arith}

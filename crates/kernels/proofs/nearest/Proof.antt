@@ -1,6 +1,6 @@
 -- `nearest` computes modulo 2^64 what fits 64 bits. Assumes nothing.
 use borrow.Author.Needs.{needs}
-use mathlib.Core.Path.{_≡_, _∙_}
+use mathlib.Core.Path.{_∙_}
 use Rattle.designs.specs.Designs.{nearest}
 use Rattle.designs.proofs.Zeros.{zero-left, zero-right}
 use Rattle.kernels.proofs.Wrapping.{nearest-wrapped}

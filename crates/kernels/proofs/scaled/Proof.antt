@@ -1,6 +1,6 @@
 -- `scaled` shifts by the difference of e and t, up or down. Assumes nothing.
 use borrow.Author.Needs.{needs}
-use mathlib.Core.Path.{_≡_, sym, _∙_}
+use mathlib.Core.Path.{sym, _∙_}
 use native.Mathlib.Nat.{le-of-lt, mod-eq-of-lt}
 use Rattle.designs.proofs.Truncated.{shift-left, shift-right}
 use Rattle.kernels.proofs.scaled.Statement.{statement}

@@ -1,7 +1,7 @@
 -- `truncated` adds both operands over their powers, folds the sum less one 2^t, and scales it. Assumes nothing.
 use borrow.Author.Needs.{needs}
-use mathlib.Core.Path.{_≡_, ap, ap₂, _∙_}
-use Prim.Native.Nat.{ℕ, _+_, _-_, _*_, _/_, _^_, _<_, _≤_}
+use mathlib.Core.Path.{_≡_, ap, _∙_}
+use Prim.Native.Nat.{ℕ, _+_, _/_, _^_, _<_}
 use native.Mathlib.Nat.{le-of-suc-le-suc, min-le-right}
 use lib.Pow.{pow-mono}
 use Rattle.designs.specs.Designs.{truncated, product}
