@@ -8,3 +8,12 @@ pub mod Staged
 pub mod Fold
 pub mod Truncated
 pub mod Widths
+pub mod Squares
+pub mod Distance
+pub mod Triples
+pub mod MitchellBound
+pub mod NearestBound
+pub mod TruncatedBound
+pub mod Sizes
+pub mod RowSums
+pub mod Demand

@@ -4,3 +4,4 @@ pub mod Outcomes
 pub mod Products
 pub mod Rows
 pub mod Figures
+pub mod Demand
