@@ -17,3 +17,4 @@ pub mod TruncatedBound
 pub mod Sizes
 pub mod RowSums
 pub mod Demand
+pub mod Prefixes

@@ -5,3 +5,4 @@ pub mod Products
 pub mod Rows
 pub mod Figures
 pub mod Demand
+pub mod Scoring

@@ -7,10 +7,10 @@ use mathlib.Core.Bool.{Bool, true, false, false≢true}
 use lib.Dec.{T, leb·zero, leb·suc-zero}
 use lib.IntN.{ℤ, pos, negsuc, negℤ, natAbs, _-ℤ_, +ℤ-idl}
 use lib.Ieee.{unlike}
-use lib.Signed.{ltZ, leZ, mag, nonNeg}
-use mir.Syntax.{w64}
+use lib.Signed.{ltZ, leZ, mag, natAbs-le, nonNeg}
+use mir.Syntax.{w16, w64}
 use mir.Val.{SFits, toZ, ofZ}
-use mir.Facts.{toZ-ofZ}
+use mir.Facts.{toZ-ofZ, sfits-widen}
 use Rattle.designs.specs.Signs.{negative, withSign}
 use Rattle.designs.proofs.Differences.{gap, is-pos}
 
@@ -48,8 +48,7 @@ size-pos (negsuc n) e = omega arith
 
 -- sizes that fit
 pub size-le : (x : ℤ) → SFits w64 x → natAbs x ≤ 2 ^ 63
-size-le (pos n) h = let k : n < 2 ^ 63 = h .sfits in omega arith
-size-le (negsuc n) h = h .sfits
+size-le x h = natAbs-le x (h .sfits)
 
 pub fits : (minus : Bool) (n : ℕ) → n < 2 ^ 63 → SFits w64 (withSign minus n)
 fits false n h = record { sfits = h }
@@ -62,3 +61,18 @@ zero-minus x = +ℤ-idl (negℤ x)
 -- a result, read back from its bits
 pub read-back : (x : ℤ) → mag x < 2 ^ 63 → toZ w64 (ofZ w64 x) ≡ x
 read-back x h = toZ-ofZ (record { sfits = h })
+
+-- a 16-bit number, widened to 64 bits
+pub widens : (x : ℤ) → SFits w16 x → SFits w64 (toZ w16 (ofZ w16 x))
+widens x h = rw (toZ-ofZ h) (sfits-widen tt h)
+
+pub widened : (x : ℤ) → SFits w16 x → toZ w64 (ofZ w64 (toZ w16 (ofZ w16 x))) ≡ x
+widened x h = rw (toZ-ofZ h) (toZ-ofZ (sfits-widen tt h))
+
+pub size16 : (x : ℤ) → SFits w16 x → natAbs x ≤ 2 ^ 15
+size16 x h = natAbs-le x (h .sfits)
+
+-- a number of a size below 2^63 fits
+pub sized : (x : ℤ) → natAbs x < 2 ^ 63 → SFits w64 x
+sized (pos n) h = record { sfits = h }
+sized (negsuc n) h = record { sfits = omega arith }

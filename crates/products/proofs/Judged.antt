@@ -60,7 +60,7 @@ passed true true false e = absurd (omega arith)
 passed true false c e = absurd (omega arith)
 passed false b c e = absurd (omega arith)
 
-refused-is : {X : Type 0} (n : ℕ) (v : X) → (n ≡ 0 → ⊥) → refused n ≡ unlessRefused n v
+pub refused-is : {X : Type 0} (n : ℕ) (v : X) → (n ≡ 0 → ⊥) → refused n ≡ unlessRefused n v
 refused-is zero v h = absurd (h refl)
 refused-is (suc n) v h = refl
 

@@ -1,14 +1,10 @@
 -- What makes a signed product fit 64 bits. Definitions only.
-use mathlib.Core.Path.{_≡_}
-use Prim.Native.Nat.{ℕ, _^_, _≤_}
+use Prim.Native.Nat.{_^_, _<_, _≤_}
 use lib.IntN.{ℤ, natAbs}
-use Rattle.designs.specs.Products.{designOf}
-use Rattle.designs.proofs.Widths.{KeepsBit}
-use Rattle.kernels.specs.Steps.{served}
+use Rattle.designs.specs.Designs.{Design, product}
 
--- the kernels serve the design as it is, it keeps at least one bit, and the sizes are those of 32 bits
-pub record Signable (design setting : ℕ) (a b : ℤ) : Type 0 where
-  pub serves : served (designOf design setting) ≡ designOf design setting
-  pub keeps : KeepsBit (designOf design setting)
+-- the sizes are those of 32 bits, and their product leaves room for a sign
+pub record Signable (D : Design) (a b : ℤ) : Type 0 where
   pub first : natAbs a ≤ 2 ^ 31
   pub second : natAbs b ≤ 2 ^ 31
+  pub fits : product D (natAbs a) (natAbs b) < 2 ^ 63

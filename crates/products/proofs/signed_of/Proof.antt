@@ -1,14 +1,14 @@
--- `signed_of` gives the product of the sizes its sign. That product has at most 63 bits, so either sign fits. Assumes nothing.
+-- `signed_of` gives the product of the sizes its sign. Assumes nothing.
 use borrow.Author.Needs.{needs}
-use mathlib.Core.Path.{_≡_, ap, ap₂, _∙_}
+use mathlib.Core.Path.{_≡_, ap₂, _∙_}
 use Prim.Native.Nat.{ℕ}
 use lib.IntN.{natAbs}
 use mathlib.Core.Bool.{Bool}
 use mir.Facts.{toZ-ofZ}
-use Rattle.designs.specs.Designs.{Design, product}
+use Rattle.designs.specs.Designs.{product}
 use Rattle.designs.specs.Signs.{signedProduct, withSign}
 use Rattle.designs.specs.Products.{designOf}
-use Rattle.designs.proofs.Widths.{size-lt}
+use Rattle.kernels.specs.Steps.{served}
 use Rattle.products.proofs.Integers.{read-back}
 use native.Mathlib.Omega.{arith}
 use Rattle.products.proofs.signed_of.Statement.{statement}
@@ -22,11 +22,10 @@ second : (c : tie.After-magnitude2) → c .magnitude2 .result ≡ natAbs (c .bef
 second c = rw (toZ-ofZ (c .before .before .fits .b)) at (c .magnitude2 .ensures)
 
 size : (c : tie.After-product-of)
-    → c .product-of .result ≡ product (designOf (c .before .before .before .args .design) (c .before .before .before .args .setting)) (natAbs (c .before .before .before .args .a)) (natAbs (c .before .before .before .args .b))
+    → c .product-of .result ≡ product (served (designOf (c .before .before .before .args .design) (c .before .before .before .args .setting))) (natAbs (c .before .before .before .args .a)) (natAbs (c .before .before .before .args .b))
 size c =
     let start = c .before .before .before in
-    c .product-of .ensures ∙ ap (λ (D : Design). product D (c .before .before .magnitude .result) (c .before .magnitude2 .result)) (start .pre .serves)
-    ∙ ap₂ (product (designOf (start .args .design) (start .args .setting))) (first (c .before .before)) (second (c .before))
+    c .product-of .ensures ∙ ap₂ (product (served (designOf (start .args .design) (start .args .setting)))) (first (c .before .before)) (second (c .before))
 
 magnitude-requires : tie.Need-magnitude-requires
 magnitude-requires c κs = search needs
@@ -47,9 +46,7 @@ opposite-requires : tie.Need-opposite-requires
 opposite-requires c κs = search needs
 
 with-sign-requires : tie.Need-with-sign-requires
-with-sign-requires c κs =
-    let start = c .before .before .before .before in
-    rw (size (c .before)) (size-lt (designOf (start .args .design) (start .args .setting)) (start .pre .keeps) 31 (natAbs (start .args .a)) (natAbs (start .args .b)) (start .pre .first) (start .pre .second))
+with-sign-requires c κs = rw (size (c .before)) (c .before .before .before .before .pre .fits)
 
 returns : tie.Need-returns
 unfolding signedProduct

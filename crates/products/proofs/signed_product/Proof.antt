@@ -4,9 +4,11 @@ use mathlib.Core.Path.{_≡_, sym, ap, _∙_}
 use mathlib.Core.Bool.{Bool, true}
 use lib.IntN.{ℤ}
 use mir.Facts.{toZ-ofZ}
+use Rattle.designs.specs.Designs.{Design}
 use Rattle.designs.specs.Signs.{signedProduct}
 use Rattle.designs.specs.Outcomes.{accepted}
 use Rattle.designs.specs.Products.{designOf, insideSigned, signedOutcome}
+use Rattle.designs.proofs.Widths.{size-lt}
 use Rattle.products.proofs.Integers.{read-back}
 use Rattle.products.proofs.Judged.{Accepted, accept, by-setting, by-operand, by-value, fails, holds, signed-size}
 use Rattle.products.proofs.signed_product.Statement.{statement}
@@ -73,13 +75,10 @@ signed-of-requires : tie.Need-signed-of-requires
 signed-of-requires c κs =
     let start = c .before .before .before .before .before .before in
     let setting = settled (c .before .before .before .before) in
-    rw (toZ-ofZ (start .fits .a), toZ-ofZ (start .fits .b))
-    (record {
-      serves = setting .serves;
-      keeps = setting .keeps;
-      first = signed-size (start .args .width) (start .args .a) (setting .high) (first-holds (c .before .before));
-      second = signed-size (start .args .width) (start .args .b) (setting .high) (second-holds c);
-    })
+    let a-size = signed-size (start .args .width) (start .args .a) (setting .high) (first-holds (c .before .before)) in
+    let b-size = signed-size (start .args .width) (start .args .b) (setting .high) (second-holds c) in
+    rw (toZ-ofZ (start .fits .a), toZ-ofZ (start .fits .b), setting .serves)
+    (record { first = a-size; second = b-size; fits = size-lt _ (setting .keeps) 31 _ _ a-size b-size })
 
 returns-4 : tie.Need-returns-4
 unfolding signedOutcome
@@ -87,7 +86,10 @@ returns-4 c =
     let inside = c .before in
     let start = inside .before .before .before .before .before .before in
     let setting = settled (inside .before .before .before .before) in
-    ap accepted (read-back (c .signed-of .result) (c .signed-of .ok) ∙ (simp (toZ-ofZ (start .fits .a), toZ-ofZ (start .fits .b)) at (c .signed-of .ensures)))
+    ap accepted
+    (read-back (c .signed-of .result) (c .signed-of .ok)
+    ∙ (simp (toZ-ofZ (start .fits .a), toZ-ofZ (start .fits .b)) at (c .signed-of .ensures))
+    ∙ ap (λ (D : Design). signedProduct D (start .args .a) (start .args .b)) (setting .serves))
     ∙ by-value _ _ _ (value start) (first start) (second start) setting (first-holds (inside .before .before)) (second-holds inside)
 
 pub signed-product-spec : {M : Type 1} → statement M

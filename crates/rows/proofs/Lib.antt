@@ -1,0 +1,3 @@
+pub mod Pair
+pub mod SoFar
+pub mod Judged

@@ -1,0 +1,52 @@
+-- What an answer of `score_row` says, and what it promises. Definitions only.
+use mathlib.Core.Path.{_≡_}
+use Prim.Native.Nat.{ℕ, _^_, _≤_, _<_}
+use mathlib.Core.List.{List, _++_}
+use lib.IntN.{ℤ, natAbs}
+use lib.ListN.{length, drop}
+use Rattle.designs.specs.Outcomes.{Outcome, accepted, refused}
+use Rattle.designs.specs.Products.{designOf}
+use Rattle.designs.specs.Rows.{Report, report, residues}
+use Rattle.designs.specs.Scoring.{rowOutcome, rowWritten}
+use Rattle.designs.specs.Demand.{Demand}
+use Rattle.designs.proofs.Widths.{KeepsBit}
+use Rattle.kernels.specs.Steps.{served}
+use Rattle.rows.specs.declared.RowReport.{RowReport}
+use Rattle.rows.specs.declared.Scored.{Scored}
+use Rattle.rows.specs.declared.Scored.the-variants as S
+
+abbrev pub reportOf : RowReport → Report
+reportOf r = record { score = r .score; trueSum = r .«true_sum»; error = r .error; magnitudeSum = r .«magnitude_sum»; nonzeroPairs = r .«nonzero_pairs» }
+
+abbrev pub given : Scored → Outcome Report
+given (S.Report r) = accepted (reportOf r)
+given (S.Refused n) = refused n
+
+-- all sums are below 2^43 in size
+pub record Small (r : Report) : Type 0 where
+  pub score : natAbs (r .score) < 2 ^ 43
+  pub trueSum : natAbs (r .trueSum) < 2 ^ 43
+  pub error : natAbs (r .error) < 2 ^ 43
+  pub magnitudeSum : r .magnitudeSum < 2 ^ 43
+
+-- the promise: the answer is the definition's, the residue slice holds what the definition says, and of a report
+-- the third demand holds and every sum is small
+pub record Scoring (design setting : ℕ) (ws fs before after : List ℤ) (answer : Scored) : Type 0 where
+  pub outcome : given answer ≡ rowOutcome design setting ws fs before
+  pub written : after ≡ rowWritten design setting ws fs before
+  pub demand : (r : Report) → given answer ≡ accepted r → Demand (designOf design setting) ws fs r
+  pub small : (r : Report) → given answer ≡ accepted r → Small r
+
+-- a row that can be scored
+pub record Ready (design setting : ℕ) (ws fs before : List ℤ) : Type 0 where
+  pub serves : served (designOf design setting) ≡ designOf design setting
+  pub keeps : KeepsBit (designOf design setting)
+  pub lengths : length ws ≡ length fs
+  pub pairs : length ws ≤ 4096
+  pub places : length ws ≤ length before
+
+-- and what scoring it gives
+pub record Summed (design setting : ℕ) (ws fs before after : List ℤ) (r : RowReport) : Type 0 where
+  pub is : reportOf r ≡ report (designOf design setting) ws fs
+  pub written : after ≡ residues (designOf design setting) ws fs ++ drop (length ws) before
+  pub small : Small (reportOf r)

@@ -1,0 +1,42 @@
+// The sums of a row, in one pass.
+ghost use Rattle.rows.specs.Answers.{Ready, Summed};
+use crate::RowReport;
+
+// Goes over the pairs once. Each place of `residues` is written when its pair is scored.
+pub(crate) fn accumulate(
+    design: u32,
+    setting: u32,
+    weights: &[i16],
+    frame: &[i16],
+    residues: &mut [i64],
+) -> RowReport
+    requires { ⌜ Ready design setting (now weights) (now frame) (now residues) ⌝ }
+    ensures { λ r. ⌜ Summed design setting (now (weights .entry)) (now (frame .entry)) (now (residues .entry)) (now (residues .exit)) r ⌝ }
+{
+    let mut score: i64 = 0;
+    let mut true_sum: i64 = 0;
+    let mut magnitude_sum: u64 = 0;
+    let mut nonzero_pairs: u64 = 0;
+    let mut i = 0;
+    while i < weights.len() {
+        let w = weights[i];
+        let x = frame[i];
+        let product = products::signed_pair(design, setting, w, x);
+        let truth = crate::pairs::true_product(w, x);
+        let size = products::magnitude(truth);
+        let full = crate::pairs::count(size);
+        score += product;
+        true_sum += truth;
+        magnitude_sum += size;
+        nonzero_pairs += full;
+        residues[i] = truth - product;
+        i += 1;
+    }
+    RowReport {
+        score,
+        true_sum,
+        error: true_sum - score,
+        magnitude_sum,
+        nonzero_pairs,
+    }
+}
