@@ -7,6 +7,7 @@ use Rattle.designs.specs.Signs.{residue}
 use Rattle.designs.specs.Outcomes.{Outcome, accepted, refused}
 use Rattle.designs.specs.Products.{unsignedOutcome, signedOutcome, designOf}
 use Rattle.designs.specs.Rows.{Report, report, residues}
+use Rattle.designs.specs.Scoring.{rowOutcome, rowWritten}
 
 -- What a figure asks, with the design, setting and width as the table has them: an unsigned product, a signed one, or a row.
 pub data Question : Type 0 where
@@ -74,3 +75,24 @@ judged =
 pub judged-hold : map (λ j. j .0) judged ≡ map (λ j. j .1) judged
 unfolding judged
 judged-hold = refl
+
+-- Rows that are scored or refused into five places: the outcome and what the places then hold, and what both should be.
+abbrev places : List ℤ
+places = pos 91 ∷ pos 92 ∷ pos 93 ∷ pos 94 ∷ pos 95 ∷ []
+
+abbrev into : ℕ → ℕ → List ℤ → List ℤ → List ℤ → Outcome Report × List ℤ
+into design setting ws fs before = (rowOutcome design setting ws fs before, rowWritten design setting ws fs before)
+
+pub rows : List ((Outcome Report × List ℤ) × (Outcome Report × List ℤ))
+unfolding rowOutcome rowWritten
+rows =
+    (into 1 0 (pos 3 ∷ − 5 ∷ pos 0 ∷ []) (pos 3 ∷ pos 6 ∷ pos 7 ∷ []) places, (accepted starredRow, pos 1 ∷ − 2 ∷ pos 0 ∷ pos 94 ∷ pos 95 ∷ []))
+    ∷ (into 1 0 (pos 3 ∷ − 5 ∷ pos 0 ∷ []) (pos 3 ∷ pos 6 ∷ []) places, (refused 5, places))
+    ∷ (into 1 0 (pos 3 ∷ − 5 ∷ []) (pos 3 ∷ pos 6 ∷ []) (pos 91 ∷ []), (refused 7, pos 91 ∷ []))
+    ∷ (into 1 1 (pos 3 ∷ []) [] places, (refused 3, places))
+    ∷ (into 5 99 (pos 3 ∷ []) [] places, (refused 1, places))
+    ∷ []
+
+pub rows-hold : map (λ r. r .0) rows ≡ map (λ r. r .1) rows
+unfolding rows
+rows-hold = refl

@@ -1,4 +1,7 @@
 // The sums of a row, in one pass.
+ghost use mathlib.Core.Path.{_≡_};
+ghost use Prim.Native.Nat.{_<_};
+ghost use lib.ListN.{length, set};
 ghost use Rattle.rows.specs.Answers.{Ready, Summed};
 use crate::RowReport;
 
@@ -29,7 +32,7 @@ pub(crate) fn accumulate(
         true_sum += truth;
         magnitude_sum += size;
         nonzero_pairs += full;
-        residues[i] = truth - product;
+        write(residues, i, truth - product);
         i += 1;
     }
     RowReport {
@@ -39,4 +42,12 @@ pub(crate) fn accumulate(
         magnitude_sum,
         nonzero_pairs,
     }
+}
+
+// Writes one place and no other.
+fn write(places: &mut [i64], at: usize, value: i64)
+    requires { ⌜ at < length (now places) ⌝ }
+    ensures { λ r. ⌜ now (places .exit) ≡ set (now (places .entry)) at value ⌝ }
+{
+    places[at] = value;
 }

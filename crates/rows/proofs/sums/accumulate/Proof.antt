@@ -118,10 +118,10 @@ count-requires : tie.Need-count-requires Inv-loop μ-loop
 count-requires c κs = search needs
 
 add-score : tie.Need-add-score Inv-loop μ-loop
-add-score c = rw (p-back c) (score-fits c)
+add-score c = simp (p-back c, t-back c) (score-fits c)
 
 add-true-sum : tie.Need-add-true-sum Inv-loop μ-loop
-add-true-sum c = rw (t-back c) (true-fits c)
+add-true-sum c = simp (p-back c, t-back c) (true-fits c)
 
 add-magnitude-sum : tie.Need-add-magnitude-sum Inv-loop μ-loop
 add-magnitude-sum c = omega (arith, next-at c .magnitude-size, next-at c .within, entry c .pre .pairs)
@@ -129,15 +129,13 @@ add-magnitude-sum c = omega (arith, next-at c .magnitude-size, next-at c .within
 add-nonzero-pairs : tie.Need-add-nonzero-pairs Inv-loop μ-loop
 add-nonzero-pairs c = omega (arith, next-at c .pairs-size, next-at c .within, entry c .pre .pairs)
 
-sub-residues : tie.Need-sub-residues Inv-loop μ-loop
-sub-residues c = rw (p-back c, t-back c) (residue-fits c)
+sub-write : tie.Need-sub-write Inv-loop μ-loop
+sub-write c = simp (p-back (c .before), t-back (c .before)) (residue-fits (c .before))
 
-mul-t17 : tie.Need-mul-t17 Inv-loop μ-loop
-mul-t17 c = omega (arith, next-at c .within, entry c .pre .pairs)
-
-slice-set-from-residues : tie.Need-slice-set-from-residues Inv-loop μ-loop
-slice-set-from-residues c =
-    omega (arith, next-at c .within, c .before .before .before .before .before .before .before .loop .inv .same, entry c .pre .places)
+write-requires : tie.Need-write-requires Inv-loop μ-loop
+write-requires c κs =
+    let turn = c .before in
+    omega (arith, next-at turn .within, turn .before .before .before .before .before .before .before .loop .inv .same, entry turn .pre .places)
 
 add-i : tie.Need-add-i Inv-loop μ-loop
 add-i c = search needs
@@ -146,14 +144,16 @@ loop-less : tie.Need-loop-less Inv-loop μ-loop
 loop-less c = search needs
 
 loop-again : tie.Need-loop-again Inv-loop μ-loop
-loop-again c = simp (p-back c, t-back c, toZ-ofZ (score-fits c), toZ-ofZ (true-fits c), toZ-ofZ (residue-fits c)) (next-at c)
+loop-again c =
+    let turn = c .before .before .before in
+    simp (c .before .write .ensures, p-back turn, t-back turn, toZ-ofZ (score-fits turn), toZ-ofZ (true-fits turn), toZ-ofZ (residue-fits turn)) (next-at turn)
 
 -- when every pair has been scored
 error-fits : (c : tie.After-loop Inv-loop μ-loop) → SFits w64 (toZ w64 (c .before .loop .true-sum) -ℤ toZ w64 (c .before .loop .score))
 error-fits c = sized _ (omega (arith, c .before .loop .inv .error-size, c .before .loop .inv .within, c .before .before .pre .pairs))
 
-sub-t24 : tie.Need-sub-t24 Inv-loop μ-loop
-sub-t24 c = error-fits c
+sub-t26 : tie.Need-sub-t26 Inv-loop μ-loop
+sub-t26 c = error-fits c
 
 same-length : tie.Need-same-length Inv-loop μ-loop
 same-length c = c .before .loop .inv .same
@@ -194,12 +194,11 @@ accumulate-spec =
     add-true-sum
     add-magnitude-sum
     add-nonzero-pairs
-    sub-residues
-    mul-t17
-    slice-set-from-residues
+    sub-write
+    write-requires
     add-i
     loop-less
     loop-again
-    sub-t24
+    sub-t26
     same-length
     returns)
