@@ -1,0 +1,3 @@
+pub mod Quotient
+pub mod Scaling
+pub mod Figures
