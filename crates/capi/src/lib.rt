@@ -2,7 +2,9 @@
 // it is not 0 it is the number of the refusal and every other field is 0.
 ghost use mathlib.Core.Path.{_≡_};
 ghost use Rattle.designs.specs.Products.{unsignedOutcome, signedOutcome};
-ghost use Rattle.capi.specs.Structs.{unsignedStruct, signedStruct};
+ghost use Rattle.designs.specs.Scoring.{rowOutcome, rowWritten};
+ghost use Rattle.scores.specs.Scaling.{scaledOutcome};
+ghost use Rattle.capi.specs.Structs.{unsignedStruct, signedStruct, reportStruct, scaledStruct};
 
 #[repr(C)]
 pub struct UnsignedProduct {
@@ -57,6 +59,74 @@ pub extern "C" fn highvane_product_signed(
         },
         products::Signed::Refused(refusal) => SignedProduct {
             product: 0,
+            refusal,
+        },
+    }
+}
+
+#[repr(C)]
+pub struct Report {
+    pub score: i64,
+    pub true_sum: i64,
+    pub error: i64,
+    pub magnitude_sum: u64,
+    pub nonzero_pairs: u64,
+    pub refusal: u32,
+}
+
+#[repr(C)]
+pub struct Scaled {
+    pub score: f64,
+    pub magnitude_sum: f64,
+    pub refusal: u32,
+}
+
+#[no_mangle]
+pub extern "C" fn highvane_score_row(
+    design: u32,
+    setting: u32,
+    weights: &[i16],
+    frame: &[i16],
+    residues: &mut [i64],
+) -> Report
+    ensures given { λ r. ⌜ r ≡ reportStruct (rowOutcome design setting (now (weights .entry)) (now (frame .entry)) (now (residues .entry))) ⌝ }
+    ensures written { λ r. ⌜ now (residues .exit) ≡ rowWritten design setting (now (weights .entry)) (now (frame .entry)) (now (residues .entry)) ⌝ }
+{
+    let answer = rows::score_row(design, setting, weights, frame, residues);
+    match answer {
+        rows::Scored::Report(report) => Report {
+            score: report.score,
+            true_sum: report.true_sum,
+            error: report.error,
+            magnitude_sum: report.magnitude_sum,
+            nonzero_pairs: report.nonzero_pairs,
+            refusal: 0,
+        },
+        rows::Scored::Refused(refusal) => Report {
+            score: 0,
+            true_sum: 0,
+            error: 0,
+            magnitude_sum: 0,
+            nonzero_pairs: 0,
+            refusal,
+        },
+    }
+}
+
+#[no_mangle]
+pub extern "C" fn highvane_scale(score: i64, magnitude_sum: u64, shift: u32) -> Scaled
+    ensures { λ r. ⌜ r ≡ scaledStruct (scaledOutcome score «magnitude_sum» shift) ⌝ }
+{
+    let answer = scores::scale(score, magnitude_sum, shift);
+    match answer {
+        scores::Scaled::Values(values) => Scaled {
+            score: values.score,
+            magnitude_sum: values.magnitude_sum,
+            refusal: 0,
+        },
+        scores::Scaled::Refused(refusal) => Scaled {
+            score: 0.0,
+            magnitude_sum: 0.0,
             refusal,
         },
     }
