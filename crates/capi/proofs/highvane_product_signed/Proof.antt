@@ -12,15 +12,6 @@ use Rattle.capi.specs.Structs.{signedStruct}
 use Rattle.capi.proofs.highvane_product_signed.Statement.{statement}
 use Rattle.capi.proofs.highvane_product_signed.Tie as tie
 
-signed-product-requires : tie.Need-signed-product-requires
-signed-product-requires c κs = search needs
-
-enum-known-answer : tie.Need-enum-known-answer
-enum-known-answer c = search needs
-
-enum-known-answer-2 : tie.Need-enum-known-answer-2
-enum-known-answer-2 c = search needs
-
 -- what the product gives, its operands read back from their bits
 outcome : (c : tie.After-signed-product) → signedGiven (c .signed-product .result) ≡ signedOutcome (c .before .args .design) (c .before .args .width) (c .before .args .setting) (c .before .args .a) (c .before .args .b)
 outcome c = simp (toZ-ofZ (c .before .fits .a), toZ-ofZ (c .before .fits .b)) at (c .signed-product .ensures)
@@ -38,4 +29,4 @@ returns-2 c =
 pub highvane-product-signed-spec : {M : Type 1} → statement M
 highvane-product-signed-spec =
     tie.close
-    (tie.spec signed-product-requires enum-known-answer enum-known-answer-2 returns returns-2)
+    (tie.spec (λ c κs. search needs) (λ c. search needs) (λ c. search needs) returns returns-2)

@@ -7,15 +7,6 @@ use Rattle.capi.specs.Structs.{unsignedStruct}
 use Rattle.capi.proofs.highvane_product_unsigned.Statement.{statement}
 use Rattle.capi.proofs.highvane_product_unsigned.Tie as tie
 
-unsigned-product-requires : tie.Need-unsigned-product-requires
-unsigned-product-requires c κs = search needs
-
-enum-known-answer : tie.Need-enum-known-answer
-enum-known-answer c = search needs
-
-enum-known-answer-2 : tie.Need-enum-known-answer-2
-enum-known-answer-2 c = search needs
-
 returns : tie.Need-returns
 returns c =
     sym (ap (λ (x : Unsigned). unsignedStruct (unsignedGiven x)) (c .before .answer .given .1)) ∙ ap unsignedStruct (c .before .before .before .unsigned-product .ensures)
@@ -27,4 +18,4 @@ returns-2 c =
 pub highvane-product-unsigned-spec : {M : Type 1} → statement M
 highvane-product-unsigned-spec =
     tie.close
-    (tie.spec unsigned-product-requires enum-known-answer enum-known-answer-2 returns returns-2)
+    (tie.spec (λ c κs. search needs) (λ c. search needs) (λ c. search needs) returns returns-2)

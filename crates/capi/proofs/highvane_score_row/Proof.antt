@@ -18,28 +18,15 @@ use Rattle.capi.proofs.highvane_score_row.Tie as tie
 back : (x : ℤ) → natAbs x < 2 ^ 43 → toZ w64 (ofZ w64 x) ≡ x
 back x h = toZ-ofZ (sized x (omega arith))
 
-score-row-requires : tie.Need-score-row-requires
-score-row-requires c κs = search needs
-
-enum-known-answer : tie.Need-enum-known-answer
-enum-known-answer c = search needs
-
-enum-known-answer-2 : tie.Need-enum-known-answer-2
-enum-known-answer-2 c = search needs
-
-same-length : tie.Need-same-length
-same-length c = search needs
-
 returns : tie.Need-returns
 returns c =
     let answer = c .before .before .answer .given in
     let promise = c .before .before .before .before .before .score-row .ensures in
-    let small = promise .small (reportOf (answer .0 .0)) (ap given (answer .1)) in
-    (simp (back (answer .0 .0 .score) (small .score), back (answer .0 .0 .«true_sum») (small .trueSum), back (answer .0 .0 .error) (small .error))
-    (sym (ap (λ (x : Scored). reportStruct (given x)) (answer .1)) ∙ ap reportStruct (promise .outcome)), promise .written)
-
-same-length-2 : tie.Need-same-length-2
-same-length-2 c = search needs
+    let small = promise .small (reportOf (answer .0 .0)) (ap given (answer .1)) in (
+      simp (back (answer .0 .0 .score) (small .score), back (answer .0 .0 .«true_sum») (small .trueSum), back (answer .0 .0 .error) (small .error))
+          (sym (ap (λ (x : Scored). reportStruct (given x)) (answer .1)) ∙ ap reportStruct (promise .outcome)),
+      promise .written,
+    )
 
 returns-2 : tie.Need-returns-2
 returns-2 c =
@@ -50,10 +37,10 @@ pub highvane-score-row-spec : {M : Type 1} → statement M
 highvane-score-row-spec =
     tie.close
     (tie.spec
-    score-row-requires
-    enum-known-answer
-    enum-known-answer-2
-    same-length
+    (λ c κs. search needs)
+    (λ c. search needs)
+    (λ c. search needs)
+    (λ c. search needs)
     returns
-    same-length-2
+    (λ c. search needs)
     returns-2)

@@ -6,20 +6,11 @@ use native.Mathlib.Omega.{arith}
 use Rattle.kernels.proofs.folded.Statement.{statement}
 use Rattle.kernels.proofs.folded.Tie as tie
 
-add-if1 : tie.Need-add-if1
-add-if1 c = search needs
-
 returns : tie.Need-returns
 returns c = simp (lt-ltb (c .before .args .sum) (2 * c .before .args .one) (omega arith))
-
-sub-s : tie.Need-sub-s
-sub-s c = search needs
-
-add-result : tie.Need-add-result
-add-result c = search needs
 
 returns-2 : tie.Need-returns-2
 returns-2 c = simp (le-ltb (c .before .args .sum) (2 * c .before .args .one) (omega arith)) (omega arith)
 
 pub folded-spec : {M : Type 1} → statement M
-folded-spec = tie.close (tie.spec add-if1 returns sub-s add-result returns-2)
+folded-spec = tie.close (tie.spec (λ c. search needs) returns (λ c. search needs) (λ c. search needs) returns-2)

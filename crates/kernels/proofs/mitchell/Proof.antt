@@ -19,24 +19,6 @@ returns c = zero-left mitchell _ _ (c .if1 .taken)
 returns-2 : tie.Need-returns-2
 returns-2 c = zero-right mitchell _ _ (c .if2 .taken)
 
-log2-floor-requires : tie.Need-log2-floor-requires
-log2-floor-requires c κs = search needs
-
-log2-floor-requires-2 : tie.Need-log2-floor-requires-2
-log2-floor-requires-2 c κs = search needs
-
-add-power : tie.Need-add-power
-add-power c = search needs
-
-power-requires : tie.Need-power-requires
-power-requires c κs = search needs
-
-shifted-requires : tie.Need-shifted-requires
-shifted-requires c κs = search needs
-
-shifted-requires-2 : tie.Need-shifted-requires-2
-shifted-requires-2 c κs = search needs
-
 add-folded : tie.Need-add-folded
 add-folded c = rw (c .before .shifted .ensures, c .shifted2 .ensures) (omega (arith, sum-at (c .before .before .before)))
 
@@ -58,12 +40,12 @@ mitchell-spec =
     (tie.spec
     returns
     returns-2
-    log2-floor-requires
-    log2-floor-requires-2
-    add-power
-    power-requires
-    shifted-requires
-    shifted-requires-2
+    (λ c κs. search needs)
+    (λ c κs. search needs)
+    (λ c. search needs)
+    (λ c κs. search needs)
+    (λ c κs. search needs)
+    (λ c κs. search needs)
     add-folded
     sub-folded
     folded-requires

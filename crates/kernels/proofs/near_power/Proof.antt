@@ -9,18 +9,6 @@ use Rattle.kernels.proofs.near_power.Tie as tie
 lead-at : (c : tie.After-shifted) → Lead (c .before .before .args .x) (c .before .log2-floor .result) (c .shifted .result / 2 ^ c .before .log2-floor .result)
 lead-at c = rw (c .shifted .ensures) (lead _ _ (c .before .before .pre) (c .before .log2-floor .ensures .is))
 
-log2-floor-requires : tie.Need-log2-floor-requires
-log2-floor-requires c κs = search needs
-
-shifted-requires : tie.Need-shifted-requires
-shifted-requires c κs = search needs
-
-cast-lead : tie.Need-cast-lead
-cast-lead c = search needs
-
-shr-lead : tie.Need-shr-lead
-shr-lead c = search needs
-
 cast-lead-2 : tie.Need-cast-lead-2
 cast-lead-2 c = omega (arith, lead-at c)
 
@@ -37,10 +25,10 @@ pub near-power-spec : {M : Type 1} → statement M
 near-power-spec =
     tie.close
     (tie.spec
-    log2-floor-requires
-    shifted-requires
-    cast-lead
-    shr-lead
+    (λ c κs. search needs)
+    (λ c κs. search needs)
+    (λ c. search needs)
+    (λ c. search needs)
     cast-lead-2
     sub-result
     add-result

@@ -14,30 +14,6 @@ returns c = zero-left nearest _ _ (c .if1 .taken)
 returns-2 : tie.Need-returns-2
 returns-2 c = zero-right nearest _ _ (c .if2 .taken)
 
-near-power-requires : tie.Need-near-power-requires
-near-power-requires c κs = search needs
-
-near-power-requires-2 : tie.Need-near-power-requires-2
-near-power-requires-2 c κs = search needs
-
-power-requires : tie.Need-power-requires
-power-requires c κs = search needs
-
-wrapping-sub-u64-requires : tie.Need-wrapping-sub-u64-requires
-wrapping-sub-u64-requires c κs = search needs
-
-shifted-requires : tie.Need-shifted-requires
-shifted-requires c κs = search needs
-
-cast-wrapping-add-u64 : tie.Need-cast-wrapping-add-u64
-cast-wrapping-add-u64 c = search needs
-
-shl-wrapping-add-u64 : tie.Need-shl-wrapping-add-u64
-shl-wrapping-add-u64 c = search needs
-
-wrapping-add-u64-requires : tie.Need-wrapping-add-u64-requires
-wrapping-add-u64-requires c κs = search needs
-
 returns-3 : tie.Need-returns-3
 returns-3 c =
     let sub = c .before .before in
@@ -55,12 +31,12 @@ nearest-spec =
     (tie.spec
     returns
     returns-2
-    near-power-requires
-    near-power-requires-2
-    power-requires
-    wrapping-sub-u64-requires
-    shifted-requires
-    cast-wrapping-add-u64
-    shl-wrapping-add-u64
-    wrapping-add-u64-requires
+    (λ c κs. search needs)
+    (λ c κs. search needs)
+    (λ c κs. search needs)
+    (λ c κs. search needs)
+    (λ c κs. search needs)
+    (λ c. search needs)
+    (λ c. search needs)
+    (λ c κs. search needs)
     returns-3)

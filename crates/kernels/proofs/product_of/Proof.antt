@@ -4,26 +4,14 @@ use borrow.Author.Tests.{eq-eqb, ne-eqb}
 use Rattle.kernels.proofs.product_of.Statement.{statement}
 use Rattle.kernels.proofs.product_of.Tie as tie
 
-mitchell-requires : tie.Need-mitchell-requires
-mitchell-requires c κs = search needs
-
 returns : tie.Need-returns
 returns c = simp (eq-eqb _ _ (c .before .if1 .taken)) (c .mitchell .ensures)
-
-nearest-requires : tie.Need-nearest-requires
-nearest-requires c κs = search needs
 
 returns-2 : tie.Need-returns-2
 returns-2 c = simp (ne-eqb _ _ (c .before .before .if1 .left), eq-eqb _ _ (c .before .if2 .taken)) (c .nearest .ensures)
 
-staged-requires : tie.Need-staged-requires
-staged-requires c κs = search needs
-
 returns-3 : tie.Need-returns-3
 returns-3 c = simp (ne-eqb _ _ (c .before .before .before .if1 .left), ne-eqb _ _ (c .before .before .if2 .left), eq-eqb _ _ (c .before .if3 .taken)) (c .staged .ensures)
-
-truncated-requires : tie.Need-truncated-requires
-truncated-requires c κs = search needs
 
 returns-4 : tie.Need-returns-4
 returns-4 c = simp (ne-eqb _ _ (c .before .before .before .if1 .left), ne-eqb _ _ (c .before .before .if2 .left), ne-eqb _ _ (c .before .if3 .left)) (c .truncated .ensures)
@@ -32,11 +20,11 @@ pub product-of-spec : {M : Type 1} → statement M
 product-of-spec =
     tie.close
     (tie.spec
-    mitchell-requires
+    (λ c κs. search needs)
     returns
-    nearest-requires
+    (λ c κs. search needs)
     returns-2
-    staged-requires
+    (λ c κs. search needs)
     returns-3
-    truncated-requires
+    (λ c κs. search needs)
     returns-4)

@@ -6,23 +6,8 @@ use Rattle.designs.proofs.Truncated.{shift-left, shift-right}
 use Rattle.kernels.proofs.scaled.Statement.{statement}
 use Rattle.kernels.proofs.scaled.Tie as tie
 
-cast-result : tie.Need-cast-result
-cast-result c = search needs
-
-shl-result : tie.Need-shl-result
-shl-result c = search needs
-
 returns : tie.Need-returns
 returns c = mod-eq-of-lt (c .before .pre .2 (c .if1 .taken)) ∙ sym (shift-left _ _ _ (c .if1 .taken))
-
-sub-result : tie.Need-sub-result
-sub-result c = search needs
-
-cast-result-2 : tie.Need-cast-result-2
-cast-result-2 c = search needs
-
-shr-result : tie.Need-shr-result
-shr-result c = search needs
 
 returns-2 : tie.Need-returns-2
 returns-2 c = sym (shift-right _ _ _ (le-of-lt (c .if1 .left)))
@@ -30,4 +15,4 @@ returns-2 c = sym (shift-right _ _ _ (le-of-lt (c .if1 .left)))
 pub scaled-spec : {M : Type 1} → statement M
 scaled-spec =
     tie.close
-    (tie.spec cast-result shl-result returns sub-result cast-result-2 shr-result returns-2)
+    (tie.spec (λ c. search needs) (λ c. search needs) returns (λ c. search needs) (λ c. search needs) (λ c. search needs) returns-2)

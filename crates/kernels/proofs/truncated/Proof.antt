@@ -43,35 +43,14 @@ returns c = zero-left (truncated _) _ _ (c .if1 .taken)
 returns-2 : tie.Need-returns-2
 returns-2 c = zero-right (truncated _) _ _ (c .if2 .taken)
 
-at-most-31-requires : tie.Need-at-most-31-requires
-at-most-31-requires c κs = search needs
-
-log2-floor-requires : tie.Need-log2-floor-requires
-log2-floor-requires c κs = search needs
-
-log2-floor-requires-2 : tie.Need-log2-floor-requires-2
-log2-floor-requires-2 c κs = search needs
-
 power-requires : tie.Need-power-requires
 power-requires c κs = omega (arith, small c)
 
 shifted-requires : tie.Need-shifted-requires
 shifted-requires c κs = omega (arith, small (c .before))
 
-cast-sum : tie.Need-cast-sum
-cast-sum c = search needs
-
-shr-sum : tie.Need-shr-sum
-shr-sum c = search needs
-
 shifted-requires-2 : tie.Need-shifted-requires-2
 shifted-requires-2 c κs = omega (arith, small (c .before .before))
-
-cast-sum-2 : tie.Need-cast-sum-2
-cast-sum-2 c = search needs
-
-shr-sum-2 : tie.Need-shr-sum-2
-shr-sum-2 c = search needs
 
 add-sum : tie.Need-add-sum
 add-sum c = omega (arith, whole c, sum-at (c .before .before .before))
@@ -84,9 +63,6 @@ sub-sum c = rw (c .before .before .power .ensures) (omega (arith, whole c))
 
 folded-requires : tie.Need-folded-requires
 folded-requires c κs = rw (c .before .before .power .ensures) (omega (arith, whole c, sum-at (c .before .before .before), pow-mono (le-of-suc-le-suc (small (c .before .before .before)))))
-
-add-scaled : tie.Need-add-scaled
-add-scaled c = search needs
 
 scaled-requires : tie.Need-scaled-requires
 scaled-requires c κs =
@@ -105,20 +81,20 @@ truncated-spec =
     (tie.spec
     returns
     returns-2
-    at-most-31-requires
-    log2-floor-requires
-    log2-floor-requires-2
+    (λ c κs. search needs)
+    (λ c κs. search needs)
+    (λ c κs. search needs)
     power-requires
     shifted-requires
-    cast-sum
-    shr-sum
+    (λ c. search needs)
+    (λ c. search needs)
     shifted-requires-2
-    cast-sum-2
-    shr-sum-2
+    (λ c. search needs)
+    (λ c. search needs)
     add-sum
     add-sum-2
     sub-sum
     folded-requires
-    add-scaled
+    (λ c. search needs)
     scaled-requires
     returns-3)

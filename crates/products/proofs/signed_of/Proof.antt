@@ -27,23 +27,11 @@ size c =
     let start = c .before .before .before in
     c .product-of .ensures ∙ ap₂ (product (served (designOf (start .args .design) (start .args .setting)))) (first (c .before .before)) (second (c .before))
 
-magnitude-requires : tie.Need-magnitude-requires
-magnitude-requires c κs = search needs
-
 cast-product-of : tie.Need-cast-product-of
 cast-product-of c = omega (arith, first c)
 
-magnitude-requires-2 : tie.Need-magnitude-requires-2
-magnitude-requires-2 c κs = search needs
-
 cast-product-of-2 : tie.Need-cast-product-of-2
 cast-product-of-2 c = omega (arith, second c)
-
-product-of-requires : tie.Need-product-of-requires
-product-of-requires c κs = search needs
-
-opposite-requires : tie.Need-opposite-requires
-opposite-requires c κs = search needs
 
 with-sign-requires : tie.Need-with-sign-requires
 with-sign-requires c κs = rw (size (c .before)) (c .before .before .before .before .pre .fits)
@@ -59,11 +47,11 @@ pub signed-of-spec : {M : Type 1} → statement M
 signed-of-spec =
     tie.close
     (tie.spec
-    magnitude-requires
+    (λ c κs. search needs)
     cast-product-of
-    magnitude-requires-2
+    (λ c κs. search needs)
     cast-product-of-2
-    product-of-requires
-    opposite-requires
+    (λ c κs. search needs)
+    (λ c κs. search needs)
     with-sign-requires
     returns)

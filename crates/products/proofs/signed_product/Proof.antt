@@ -43,9 +43,6 @@ first-holds c = holds (first-test (c .before)) (c .if2 .left)
 second-holds : (c : tie.Else3) → second (c .before .before .before .before .before .before) ≡ true
 second-holds c = holds (second-test (c .before)) (c .if3 .left)
 
-refusal-of-requires : tie.Need-refusal-of-requires
-refusal-of-requires c κs = search needs
-
 returns : tie.Need-returns
 unfolding signedOutcome
 returns c =
@@ -96,7 +93,7 @@ pub signed-product-spec : {M : Type 1} → statement M
 signed-product-spec =
     tie.close
     (tie.spec
-    refusal-of-requires
+    (λ c κs. search needs)
     returns
     inside-signed-requires
     returns-2

@@ -30,9 +30,6 @@ first-holds c = holds (c .before .inside-unsigned .ensures) (c .if2 .left)
 second-holds : (c : tie.Else3) → second (c .before .before .before .before .before .before) ≡ true
 second-holds c = holds (c .before .inside-unsigned2 .ensures) (c .if3 .left)
 
-refusal-of-requires : tie.Need-refusal-of-requires
-refusal-of-requires c κs = search needs
-
 returns : tie.Need-returns
 unfolding unsignedOutcome
 returns c =
@@ -64,9 +61,6 @@ cast-product-of c = record { fits = unsigned-size _ _ (settled (c .before .befor
 cast-product-of-2 : tie.Need-cast-product-of-2
 cast-product-of-2 c = record { fits = unsigned-size _ _ (settled (c .before .before .before .before) .high) (second-holds c) }
 
-product-of-requires : tie.Need-product-of-requires
-product-of-requires c κs = search needs
-
 returns-4 : tie.Need-returns-4
 unfolding unsignedOutcome
 returns-4 c =
@@ -80,7 +74,7 @@ pub unsigned-product-spec : {M : Type 1} → statement M
 unsigned-product-spec =
     tie.close
     (tie.spec
-    refusal-of-requires
+    (λ c κs. search needs)
     returns
     inside-unsigned-requires
     returns-2
@@ -88,5 +82,5 @@ unsigned-product-spec =
     returns-3
     cast-product-of
     cast-product-of-2
-    product-of-requires
+    (λ c κs. search needs)
     returns-4)

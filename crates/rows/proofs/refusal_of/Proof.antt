@@ -7,12 +7,6 @@ use Rattle.products.proofs.Judged.{fails, holds}
 use Rattle.rows.proofs.refusal_of.Statement.{statement}
 use Rattle.rows.proofs.refusal_of.Tie as tie
 
-is-design-requires : tie.Need-is-design-requires
-is-design-requires c κs = search needs
-
-takes-setting-requires : tie.Need-takes-setting-requires
-takes-setting-requires c κs = search needs
-
 returns : tie.Need-returns
 unfolding first rowRefusals
 returns c =
@@ -53,8 +47,8 @@ pub refusal-of-spec : {M : Type 1} → statement M
 refusal-of-spec =
     tie.close
     (tie.spec
-    is-design-requires
-    takes-setting-requires
+    (λ c κs. search needs)
+    (λ c κs. search needs)
     returns
     returns-2
     returns-3

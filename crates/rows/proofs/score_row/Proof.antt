@@ -5,20 +5,14 @@ use Rattle.rows.proofs.Judged.{ready, refuse, score}
 use Rattle.rows.proofs.score_row.Statement.{statement}
 use Rattle.rows.proofs.score_row.Tie as tie
 
-refusal-of-requires : tie.Need-refusal-of-requires
-refusal-of-requires c κs = search needs
-
 returns : tie.Need-returns
 returns c = refuse _ _ _ _ _ _ (c .before .refusal-of .ensures) (c .if1 .taken)
 
 accumulate-requires : tie.Need-accumulate-requires
 accumulate-requires c κs = ready _ _ _ _ _ (sym (c .before .before .refusal-of .ensures) ∙ c .before .if1 .left)
 
-same-length : tie.Need-same-length
-same-length c = search needs
-
 returns-2 : tie.Need-returns-2
 returns-2 c = score _ _ _ _ _ _ _ (sym (c .before .before .before .before .refusal-of .ensures) ∙ c .before .before .before .if1 .left) (c .before .accumulate .ensures)
 
 pub score-row-spec : {M : Type 1} → statement M
-score-row-spec = tie.close (tie.spec refusal-of-requires returns accumulate-requires same-length returns-2)
+score-row-spec = tie.close (tie.spec (λ c κs. search needs) returns accumulate-requires (λ c. search needs) returns-2)

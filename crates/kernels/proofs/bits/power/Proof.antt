@@ -4,11 +4,8 @@ use Rattle.kernels.proofs.Powers.{one-shifted}
 use Rattle.kernels.proofs.bits.power.Statement.{statement}
 use Rattle.kernels.proofs.bits.power.Tie as tie
 
-shl-result : tie.Need-shl-result
-shl-result c = search needs
-
 returns : tie.Need-returns
 returns c = one-shifted (c .args .k) 64 (c .pre)
 
 pub power-spec : {M : Type 1} → statement M
-power-spec = tie.close (tie.spec shl-result returns)
+power-spec = tie.close (tie.spec (λ c. search needs) returns)

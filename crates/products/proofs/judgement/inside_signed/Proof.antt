@@ -26,18 +26,6 @@ plus-inside w (negsuc n) e = absurd (false≢true (sym e))
 half : (c : tie.Start) → (1 * 2 ^ (c .args .width - 1)) % 2 ^ 64 ≡ 2 ^ (c .args .width - 1)
 half c = one-shifted (c .args .width - 1) 64 (omega arith)
 
-sub-half : tie.Need-sub-half
-sub-half c = search needs
-
-cast-half : tie.Need-cast-half
-cast-half c = search needs
-
-shl-half : tie.Need-shl-half
-shl-half c = search needs
-
-magnitude-requires : tie.Need-magnitude-requires
-magnitude-requires c κs = search needs
-
 returns : tie.Need-returns
 returns c =
     let start = c .before .before in
@@ -56,4 +44,4 @@ returns-2 c =
 pub inside-signed-spec : {M : Type 1} → statement M
 inside-signed-spec =
     tie.close
-    (tie.spec sub-half cast-half shl-half magnitude-requires returns sub-result returns-2)
+    (tie.spec (λ c. search needs) (λ c. search needs) (λ c. search needs) (λ c κs. search needs) returns sub-result returns-2)

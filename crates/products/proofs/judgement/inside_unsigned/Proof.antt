@@ -6,9 +6,6 @@ use native.Mathlib.Omega.{arith}
 use Rattle.products.proofs.judgement.inside_unsigned.Statement.{statement}
 use Rattle.products.proofs.judgement.inside_unsigned.Tie as tie
 
-shl-result : tie.Need-shl-result
-shl-result c = search needs
-
 sub-result : tie.Need-sub-result
 sub-result c = rw (one-shifted (c .args .width) 64 (omega arith)) (pow-pos _)
 
@@ -16,4 +13,4 @@ returns : tie.Need-returns
 returns c = rw (one-shifted (c .args .width) 64 (omega arith))
 
 pub inside-unsigned-spec : {M : Type 1} → statement M
-inside-unsigned-spec = tie.close (tie.spec shl-result sub-result returns)
+inside-unsigned-spec = tie.close (tie.spec (λ c. search needs) sub-result returns)

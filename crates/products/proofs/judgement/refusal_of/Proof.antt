@@ -5,15 +5,6 @@ use Rattle.products.proofs.Judged.{fails, holds}
 use Rattle.products.proofs.judgement.refusal_of.Statement.{statement}
 use Rattle.products.proofs.judgement.refusal_of.Tie as tie
 
-is-design-requires : tie.Need-is-design-requires
-is-design-requires c κs = search needs
-
-is-width-requires : tie.Need-is-width-requires
-is-width-requires c κs = search needs
-
-takes-setting-requires : tie.Need-takes-setting-requires
-takes-setting-requires c κs = search needs
-
 returns : tie.Need-returns
 unfolding settingRefusal
 returns c = simp (fails (c .before .before .before .is-design .ensures) (c .if1 .taken))
@@ -40,9 +31,9 @@ pub refusal-of-spec : {M : Type 1} → statement M
 refusal-of-spec =
     tie.close
     (tie.spec
-    is-design-requires
-    is-width-requires
-    takes-setting-requires
+    (λ c κs. search needs)
+    (λ c κs. search needs)
+    (λ c κs. search needs)
     returns
     returns-2
     returns-3

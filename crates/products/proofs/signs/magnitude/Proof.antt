@@ -40,9 +40,6 @@ returns c = rw (flipped c, toZ-ofZ (small c)) (omega (arith, size-pos (c .before
 cast-result-2 : tie.Need-cast-result-2
 cast-result-2 c = rw (toZ-ofZ (c .before .fits .x)) (nonnegative (c .before .args .x) (plus c), fits-natAbs tt (c .before .fits .x))
 
-returns-2 : tie.Need-returns-2
-returns-2 c = search needs
-
 pub magnitude-spec : {M : Type 1} → statement M
 magnitude-spec =
-    tie.close (tie.spec sub-result cast-result add-result returns cast-result-2 returns-2)
+    tie.close (tie.spec sub-result cast-result add-result returns cast-result-2 (λ c. search needs))

@@ -10,9 +10,6 @@ use Rattle.products.proofs.Integers.{fits, zero-minus}
 use Rattle.products.proofs.signs.with_sign.Statement.{statement}
 use Rattle.products.proofs.signs.with_sign.Tie as tie
 
-cast-z : tie.Need-cast-z
-cast-z c = search needs
-
 sub-result : tie.Need-sub-result
 sub-result c = rw (toZ-pos w64 (c .before .pre), zero-minus) (fits true _ (c .before .pre))
 
@@ -26,4 +23,4 @@ returns-2 : tie.Need-returns-2
 returns-2 c = simp (toZ-pos w64 (c .before .pre), c .if1 .left)
 
 pub with-sign-spec : {M : Type 1} → statement M
-with-sign-spec = tie.close (tie.spec cast-z sub-result returns returns-2)
+with-sign-spec = tie.close (tie.spec (λ c. search needs) sub-result returns returns-2)

@@ -93,30 +93,6 @@ residue-fits c = sized _ (omega (arith, pair-at c .residue-size))
 loop-holds : tie.Need-loop-holds Inv-loop μ-loop
 loop-holds c = start _ _ _ _
 
-mul-w : tie.Need-mul-w Inv-loop μ-loop
-mul-w c = search needs
-
-shared-slice-copy-out-w : tie.Need-shared-slice-copy-out-w Inv-loop μ-loop
-shared-slice-copy-out-w c = search needs
-
-mul-x : tie.Need-mul-x Inv-loop μ-loop
-mul-x c = search needs
-
-shared-slice-copy-out-x : tie.Need-shared-slice-copy-out-x Inv-loop μ-loop
-shared-slice-copy-out-x c = search needs
-
-signed-pair-requires : tie.Need-signed-pair-requires Inv-loop μ-loop
-signed-pair-requires c κs = search needs
-
-true-product-requires : tie.Need-true-product-requires Inv-loop μ-loop
-true-product-requires c κs = search needs
-
-magnitude-requires : tie.Need-magnitude-requires Inv-loop μ-loop
-magnitude-requires c κs = search needs
-
-count-requires : tie.Need-count-requires Inv-loop μ-loop
-count-requires c κs = search needs
-
 add-score : tie.Need-add-score Inv-loop μ-loop
 add-score c = simp (p-back c, t-back c) (score-fits c)
 
@@ -136,12 +112,6 @@ write-requires : tie.Need-write-requires Inv-loop μ-loop
 write-requires c κs =
     let turn = c .before in
     omega (arith, next-at turn .within, turn .before .before .before .before .before .before .before .loop .inv .same, entry turn .pre .places)
-
-add-i : tie.Need-add-i Inv-loop μ-loop
-add-i c = search needs
-
-loop-less : tie.Need-loop-less Inv-loop μ-loop
-loop-less c = search needs
 
 loop-again : tie.Need-loop-again Inv-loop μ-loop
 loop-again c =
@@ -182,22 +152,22 @@ accumulate-spec =
     Inv-loop
     μ-loop
     loop-holds
-    mul-w
-    shared-slice-copy-out-w
-    mul-x
-    shared-slice-copy-out-x
-    signed-pair-requires
-    true-product-requires
-    magnitude-requires
-    count-requires
+    (λ c. search needs)
+    (λ c. search needs)
+    (λ c. search needs)
+    (λ c. search needs)
+    (λ c κs. search needs)
+    (λ c κs. search needs)
+    (λ c κs. search needs)
+    (λ c κs. search needs)
     add-score
     add-true-sum
     add-magnitude-sum
     add-nonzero-pairs
     sub-write
     write-requires
-    add-i
-    loop-less
+    (λ c. search needs)
+    (λ c. search needs)
     loop-again
     sub-t26
     same-length
