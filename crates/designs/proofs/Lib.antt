@@ -18,3 +18,4 @@ pub mod Sizes
 pub mod RowSums
 pub mod Demand
 pub mod Prefixes
+pub mod Codes

@@ -6,3 +6,4 @@ pub mod Rows
 pub mod Figures
 pub mod Demand
 pub mod Scoring
+pub mod Codes

@@ -1,0 +1,36 @@
+-- The rule of the table, and what a product by the table gives (document 01, "The byte table"). Definitions only.
+use mathlib.Core.Path.{_≡_}
+use mathlib.Core.Bool.{Bool, true, _&&_}
+use mathlib.Core.List.{List, [], _∷_}
+use Prim.Native.Nat.{ℕ, suc, _+_, _%_, _<_}
+use lib.Dec.{T, eqb}
+use lib.ListN.{length}
+use Rattle.designs.specs.Designs.{mitchell, product}
+use Rattle.designs.specs.Codes.{code, scaledProduct, byCodes}
+
+-- A test passes at each place of a table, counted from i, and the entry there.
+unfoldable pub every : (ℕ → ℕ → Bool) → ℕ → List ℕ → Bool
+every test i [] = true
+every test i (x ∷ xs) = test i x && every test (suc i) xs
+
+-- The entry x at place v is the code of v; entry 0 holds 0, which is what `code` gives for 0.
+unfoldable pub isCode : ℕ → ℕ → Bool
+unfolding code
+isCode v x = eqb x (code 7 v)
+
+-- A table of 256 logarithm codes. The rule is one test over all entries together.
+pub record CodeTable (xs : List ℕ) : Type 0 where
+  pub long : length xs ≡ 256
+  pub coded : T (every isCode 0 xs)
+
+-- Two codes are added. The sum is below 16 × 128, so Q is at most 15.
+pub record CodeSum (a b r : ℕ) : Type 0 where
+  pub is : r ≡ code 7 a + code 7 b
+  pub small : r < 2048
+
+-- With quotient Q and rest R on division by 128 the product is (128 + R) × 2^Q / 128, which is whole, or 0 where a byte is 0.
+-- The product equals design 1 at width 8 for all pairs.
+pub record TableProduct (a b r : ℕ) : Type 0 where
+  pub is : r ≡ byCodes 7 a b
+  pub whole : scaledProduct 7 (code 7 a + code 7 b) % 128 ≡ 0
+  pub design1 : r ≡ product mitchell a b
