@@ -1,9 +1,12 @@
 // The C interface: the proved operations under C names, each answer a struct by value. A field `refusal` of 0 means accepted; where
 // it is not 0 it is the number of the refusal and every other field is 0.
 ghost use mathlib.Core.Path.{_≡_};
+ghost use lib.ListN.{length};
 ghost use Rattle.designs.specs.Products.{unsignedOutcome, signedOutcome};
 ghost use Rattle.designs.specs.Scoring.{rowOutcome, rowWritten};
 ghost use Rattle.scores.specs.Scaling.{scaledOutcome};
+ghost use Rattle.stores.specs.Stores.{storeRefusal};
+ghost use Rattle.byte_table.specs.Table.{TableProduct};
 ghost use Rattle.capi.specs.Structs.{unsignedStruct, signedStruct, reportStruct, scaledStruct};
 
 #[repr(C)]
@@ -130,4 +133,18 @@ pub extern "C" fn highvane_scale(score: i64, magnitude_sum: u64, shift: u32) -> 
             refusal,
         },
     }
+}
+
+#[no_mangle]
+pub extern "C" fn highvane_row_refusal(store: &[i16], columns: usize, row: usize) -> u32
+    ensures { λ r. ⌜ r ≡ storeRefusal (length (now (store .entry))) columns row ⌝ }
+{
+    stores::row_refusal(store, columns, row)
+}
+
+#[no_mangle]
+pub extern "C" fn highvane_table_product(a: u8, b: u8) -> u16
+    ensures { λ r. ⌜ TableProduct a b r ⌝ }
+{
+    byte_table::table_product(a, b)
 }

@@ -3,7 +3,7 @@ pub mod Signs
 pub mod Outcomes
 pub mod Products
 pub mod Rows
-pub mod Figures
 pub mod Demand
 pub mod Scoring
 pub mod Codes
+pub mod Figures
