@@ -3,7 +3,8 @@
 
 The chip has no multiplier, so no function that computes a design's product may hold a multiply instruction. Scoring a row also
 forms the true product of each pair, which the bench reads and the chip never does: one multiply there, and none in the kernel that
-it calls. The archive must need nothing from outside (no undefined symbol) and hold no data, so that it can go into ROM as it is.
+it calls. The archive must need nothing from outside (no undefined symbol) and hold no data that a program could write, so that it
+can go into ROM as it is. Constants are counted: the byte table's 512 bytes.
 
 Usage: python3 tools/check_archive.py ARCHIVE     (rt staticlib capi writes target/staticlib/libcapi.a)
 """
@@ -15,8 +16,10 @@ import sys
 MULTIPLY = re.compile(r'v?p?i?mul\w*|v?pmadd\w*|vf[n]?m(?:add|sub)\w*')
 # how many a function may have: a row's true product
 ALLOWED = {'highvane_score_row': 1}
-# sections with bytes of their own that are neither code nor notes
-DATA = re.compile(r'\.(data|rodata|bss|tdata|tbss|init_array|fini_array)\b')
+# sections that a program writes, or that run before it; and constants, with how many bytes they may have
+DATA = re.compile(r'\.(data|bss|tdata|tbss|init_array|fini_array)\b')
+CONSTANTS = re.compile(r'\.rodata\b')
+TABLE_BYTES = 512
 
 
 def output(*command):
@@ -57,17 +60,22 @@ def main():
     undefined = output('nm', '--undefined-only', archive).split()[1:]
     if undefined:
         wrong.append('undefined symbols: ' + ' '.join(undefined))
+    constants = 0
     for line in output('size', '-A', archive).splitlines():
         fields = line.split()
         if len(fields) == 3 and DATA.match(fields[0]) and fields[1] != '0':
             wrong.append(f'data: section {fields[0]} of {fields[1]} bytes')
+        if len(fields) == 3 and CONSTANTS.match(fields[0]):
+            constants += int(fields[1])
+    if constants > TABLE_BYTES:
+        wrong.append(f'{constants} bytes of constants, more than the byte table')
     for name in sorted(sizes):
         print(f'{sizes[name]:6} bytes, {len(code[name]):4} instructions  {name}')
     for line in wrong:
         print('check_archive:', line, file=sys.stderr)
     if wrong:
         sys.exit(1)
-    print(f'{len(code)} functions: no multiply instruction in a design, no undefined symbol, no data')
+    print(f'{len(code)} functions, {constants} bytes of constants: no multiply instruction in a design, no undefined symbol, no data')
 
 
 main()
