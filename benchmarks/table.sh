@@ -2,7 +2,7 @@
 # Instructions of highvane_table_product for a pair of bytes, over all 65,536 pairs, as callgrind counts them (valgrind is needed).
 set -euo pipefail
 cd "$(dirname "$0")/.."
-rt staticlib capi >/dev/null
+rt staticlib capi >/dev/null 2>&1
 work=$(mktemp -d)
 trap 'rm -rf "$work"' EXIT
 gcc -O2 benchmarks/table.c target/staticlib/libcapi.a -o "$work/table"
