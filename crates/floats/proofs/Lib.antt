@@ -1,0 +1,5 @@
+pub mod Patterns
+pub mod Rules
+pub mod Nearness
+pub mod Values
+pub mod Answered

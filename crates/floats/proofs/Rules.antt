@@ -1,0 +1,66 @@
+-- The outcome of a product, in any format, by cases on its tests: which rule the tests lead to, and, the other way, a claim on the
+-- outcome from the claim on each rule. Assumes nothing.
+use mathlib.Core.Path.{_≡_, refl, subst⁻¹}
+use Prim.Native.Nat.{ℕ, _≤_, _<_}
+use native.Mathlib.Omega.{arith}
+use mathlib.Core.Bool.{Bool, true, false, not, _&&_, _||_, cond}
+use borrow.Author.Tests.{ne-eqb}
+use lib.Dec.{T, leb→le, ltb, ltb→lt}
+use lib.Ieee.Fits.{and-l, and-r}
+use Rattle.designs.specs.Outcomes.{Outcome, accepted, first, refused, unlessRefused}
+use Rattle.designs.proofs.Cases.{by-lt}
+use Rattle.floats.specs.Formats.{Format, exponentField, isFinite, isNormal, isSubnormal, isZero, largestExponent, pattern}
+use Rattle.floats.specs.Singles.{Fields, outcome, resultRefusals, signOf}
+use Rattle.floats.specs.Steps.{resultOutcome}
+
+-- what makes a number normal
+module _ (f : Format) (x : ℕ) (n : isNormal f x ≡ true) where
+  pub normal-fields : (0 < exponentField f x) × (exponentField f x ≤ largestExponent f)
+  normal-fields = (ltb→lt 0 _ (and-l (ltb 0 (exponentField f x)) (isFinite f x) test), leb→le _ _ (and-r (ltb 0 (exponentField f x)) (isFinite f x) test))
+    where
+      test : T (isNormal f x)
+      test = subst⁻¹ T n tt
+
+  pub not-zero : isZero f x ≡ false
+  not-zero = simp (ne-eqb (exponentField f x) 0 (λ q. omega (arith, normal-fields .0)))
+
+module _ (f : Format) (a b : ℕ) (r : Fields) where
+  -- a claim on the outcome, from the claim on each case: a refusal, the zero rule, and the result with its fields
+  pub by-rule : (P : Outcome ℕ → Type 0)
+      → ((n : ℕ) → P (refused n))
+      → (isZero f a || isZero f b ≡ true → P (accepted (pattern f (signOf f a b) 0 0)))
+      → (0 < r .exponent → r .exponent ≤ largestExponent f → P (accepted (pattern f (signOf f a b) (r .exponent) (r .fraction))))
+      → P (outcome f a b r)
+  unfolding outcome resultRefusals first
+  by-rule P refuse zero result = go (not (isFinite f a && isFinite f b)) (isSubnormal f a || isSubnormal f b) (isZero f a || isZero f b) zero
+    where
+      p : ℕ → ℕ → ℕ
+      p = pattern f (signOf f a b)
+
+      go : (x y z : Bool) → (z ≡ true → P (accepted (p 0 0)))
+          → P (unlessRefused (cond x 8 (cond y 9 (cond z 0 (first (resultRefusals f (r .exponent)))))) (cond z (p 0 0) (p (r .exponent) (r .fraction))))
+      go true y z g = refuse 8
+      go false true z g = refuse 9
+      go false false true g = g refl
+      go false false false g =
+          by-lt (λ (n : ℕ). P (unlessRefused n (p (r .exponent) (r .fraction)))) (largestExponent f) (r .exponent) (λ h. refuse 10)
+          (λ h. by-lt (λ (n : ℕ). P (unlessRefused n (p (r .exponent) (r .fraction)))) (r .exponent) 1 (λ l. refuse 11) (λ l. result l h))
+
+  -- the outcome, from the tests in their order
+  pub not-finite : not (isFinite f a && isFinite f b) ≡ true → refused 8 ≡ outcome f a b r
+  unfolding outcome
+  not-finite h = simp h
+
+  module _ (finite : not (isFinite f a && isFinite f b) ≡ false) where
+    pub subnormal : isSubnormal f a || isSubnormal f b ≡ true → refused 9 ≡ outcome f a b r
+    unfolding outcome
+    subnormal h = simp (finite, h)
+
+    module _ (served : isSubnormal f a || isSubnormal f b ≡ false) {s : Bool} (sign : s ≡ signOf f a b) where
+      pub zero : isZero f a || isZero f b ≡ true → accepted (pattern f s 0 0) ≡ outcome f a b r
+      unfolding outcome
+      zero h = rw sign (simp (finite, served, h))
+
+      pub nonzero : isZero f a || isZero f b ≡ false → resultOutcome f s r ≡ outcome f a b r
+      unfolding outcome resultOutcome
+      nonzero h = rw sign (simp (finite, served, h))

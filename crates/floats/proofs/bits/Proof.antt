@@ -1,0 +1,44 @@
+-- `bits` gives the pattern of any value: only a NaN differs from itself, and every other float has its own pattern. Assumes nothing.
+use borrow.Author.Needs.{needs}
+use mathlib.Core.Path.{_≡_, sym, ap, _∙_, subst⁻¹}
+use mathlib.Core.Bool.{false, not, false≢true}
+use lib.Dec.{T}
+use lib.Ieee.{Float, binary32, fin, inf, isNan, nan, ne, toBits}
+use lib.Ieee.Compare.{differs-from-itself, nan-differs}
+use Rattle.designs.specs.Outcomes.{accepted}
+use Rattle.floats.specs.Answers.{singleGiven}
+use Rattle.floats.proofs.bits.Statement.{statement}
+use Rattle.floats.proofs.bits.Tie as tie
+
+same-is-no-nan : (x : Float) → ne x x ≡ false → T (not (isNan x))
+unfolding isNan
+same-is-no-nan nan e = absurd (false≢true (sym e ∙ nan-differs))
+same-is-no-nan (inf s) e = tt
+same-is-no-nan (fin s m e) q = tt
+
+enum-known-answer : tie.Need-enum-known-answer
+enum-known-answer c = search needs
+
+returns : tie.Need-returns
+unfolding toBits
+returns c =
+    let given = c .before .before .answer .given in
+    let x = given .0 .0 in
+    sym (ap singleGiven (given .1) ∙ ap (λ (v : Float). accepted (toBits binary32 v)) (differs-from-itself x (subst⁻¹ T (c .if1 .taken) tt)))
+
+float-to-bits-t6 : tie.Need-float-to-bits-t6
+float-to-bits-t6 c = same-is-no-nan (c .before .before .answer .given .0 .0) (c .if1 .left)
+
+enum-known-answer-2 : tie.Need-enum-known-answer-2
+enum-known-answer-2 c = search needs
+
+returns-2 : tie.Need-returns-2
+returns-2 c = sym (ap singleGiven (c .before .before .answer .given .1))
+
+returns-3 : tie.Need-returns-3
+returns-3 c = sym (ap singleGiven (c .before .answer2 .given .1))
+
+pub bits-spec : {M : Type 1} → statement M
+bits-spec =
+    tie.close
+    (tie.spec enum-known-answer returns float-to-bits-t6 enum-known-answer-2 returns-2 returns-3)

@@ -1,0 +1,19 @@
+-- `value` makes a float of a finite pattern, which is no NaN's. Assumes nothing.
+use borrow.Author.Needs.{needs}
+use Rattle.floats.proofs.Values.{no-nan}
+use Rattle.floats.proofs.value.Statement.{statement}
+use Rattle.floats.proofs.value.Tie as tie
+
+from-fields-requires : tie.Need-from-fields-requires
+from-fields-requires c κs = search needs
+
+float-from-bits-t5 : tie.Need-float-from-bits-t5
+float-from-bits-t5 c =
+    let start = c .before .before in
+    rw (c .before .from-fields .ensures, no-nan (start .args .minus) (start .args .exponent) (start .args .fraction) (start .pre .0) (start .pre .1)) tt
+
+returns : tie.Need-returns
+returns c = rw (c .before .from-fields .ensures)
+
+pub value-spec : {M : Type 1} → statement M
+value-spec = tie.close (tie.spec from-fields-requires float-from-bits-t5 returns)

@@ -1,0 +1,6 @@
+pub mod Formats
+pub mod Singles
+pub mod Meaning
+pub mod Answers
+pub mod Steps
+pub mod Figures
