@@ -1,12 +1,14 @@
 -- How an outcome is laid out for C: a refusal of 0 with the value, or the refusal's number with every other field 0. Definitions only.
 use Prim.Native.Nat.{ℕ}
 use lib.IntN.{ℤ, pos}
+use lib.Ieee.{binary32, ofBits}
 use Rattle.designs.specs.Outcomes.{Outcome, accepted, refused}
 use Rattle.designs.specs.Rows.{Report}
 use Rattle.scores.specs.Quotient.{plusZero}
 use Rattle.scores.specs.declared.Quotients.{Quotients}
 use Rattle.capi.specs.declared.UnsignedProduct.{UnsignedProduct}
 use Rattle.capi.specs.declared.SignedProduct.{SignedProduct}
+use Rattle.capi.specs.declared.SingleProduct.{SingleProduct}
 use Rattle.capi.specs.declared.Report.{Report as CReport}
 use Rattle.capi.specs.declared.Scaled.{Scaled as CScaled}
 
@@ -34,3 +36,8 @@ reportStruct (refused n) =
 abbrev pub scaledStruct : Outcome Quotients → CScaled
 scaledStruct (accepted v) = record { score = v .score; «magnitude_sum» = v .«magnitude_sum»; refusal = 0 }
 scaledStruct (refused n) = record { score = plusZero; «magnitude_sum» = plusZero; refusal = n }
+
+-- the value of a pattern
+abbrev pub singleStruct : Outcome ℕ → SingleProduct
+singleStruct (accepted p) = record { value = ofBits binary32 p; refusal = 0 }
+singleStruct (refused n) = record { value = ofBits binary32 0; refusal = n }

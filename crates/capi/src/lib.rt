@@ -7,7 +7,8 @@ ghost use Rattle.designs.specs.Scoring.{rowOutcome, rowWritten};
 ghost use Rattle.scores.specs.Scaling.{scaledOutcome};
 ghost use Rattle.stores.specs.Stores.{storeRefusal};
 ghost use Rattle.byte_table.specs.Table.{TableProduct};
-ghost use Rattle.capi.specs.Structs.{unsignedStruct, signedStruct, reportStruct, scaledStruct};
+ghost use Rattle.floats.specs.Singles.{singleOutcome};
+ghost use Rattle.capi.specs.Structs.{unsignedStruct, signedStruct, reportStruct, scaledStruct, singleStruct};
 
 #[repr(C)]
 pub struct UnsignedProduct {
@@ -147,4 +148,24 @@ pub extern "C" fn highvane_table_product(a: u8, b: u8) -> u16
     ensures { λ r. ⌜ TableProduct a b r ⌝ }
 {
     byte_table::table_product(a, b)
+}
+
+#[repr(C)]
+pub struct SingleProduct {
+    pub value: f32,
+    pub refusal: u32,
+}
+
+#[no_mangle]
+pub extern "C" fn highvane_single_product(a: u32, b: u32) -> SingleProduct
+    ensures { λ r. ⌜ r ≡ singleStruct (singleOutcome a b) ⌝ }
+{
+    let answer = floats::single_product(a, b);
+    match answer {
+        floats::Single::Value(value) => SingleProduct { value, refusal: 0 },
+        floats::Single::Refused(refusal) => SingleProduct {
+            value: 0.0,
+            refusal,
+        },
+    }
 }
