@@ -1,0 +1,5 @@
+pub mod Signed16
+pub mod OneRecord
+pub mod Turns
+pub mod Lengths
+pub mod Limit
