@@ -130,4 +130,5 @@ def main():
     sys.stdout.buffer.write(encode(text, name))
 
 
-main()
+if __name__ == '__main__':
+    main()

@@ -1,0 +1,177 @@
+#!/usr/bin/env python3
+"""Run the bench program on inputs of every kind and compare what it prints, byte for byte.
+
+    python3 tests/bench_runs.py PROGRAM
+
+What it should print is written here from the scope document alone; the results of the operations come from tools/reference.py, which
+shares nothing with the library. Prints the number of runs; the first that differs is shown, and the exit status is then 1.
+"""
+import pathlib
+import random
+import subprocess
+import sys
+import time
+
+ROOT = pathlib.Path(__file__).resolve().parent.parent
+sys.path.insert(0, str(ROOT / 'tools'))
+sys.dont_write_bytecode = True
+
+import records
+import reference
+
+LIMIT = 65536
+BODY = {1: 6, 2: 8, 3: 2}
+
+
+def number(field):
+    return int.from_bytes(field, 'little')
+
+
+def signed(field):
+    return int.from_bytes(field, 'little', signed=True)
+
+
+def outcome(kind, body):
+    """The refusal number, or 0, and the result of a record with a whole body."""
+    if kind == 1:
+        case = reference.ProductInput(reference.SIGNED, body[0], 16, body[1], signed(body[2:4]), signed(body[4:6]))
+        return reference.product_outcome(case)
+    if kind == 2:
+        return reference.single_outcome(reference.SingleInput(number(body[:4]), number(body[4:])))
+    return 0, reference.unsigned_product(1, 0, *body)
+
+
+def expected(data):
+    """The whole output for an input."""
+    if len(data) > LIMIT:
+        return '0 no 19\ntotal 0 1\n'
+    lines, counts, at = [], [0, 0], 0
+    while at < len(data):
+        kind = data[at]
+        body = data[at + 1:at + 1 + BODY.get(kind, 0)]
+        at += 1 + len(body)
+        if kind not in BODY:
+            refusal, at = 17, len(data)
+        elif len(body) < BODY[kind]:
+            refusal, at = 18, len(data)
+        else:
+            refusal, result = outcome(kind, body)
+        lines.append(f'{kind} no {refusal}' if refusal else f'{kind} ok {result}')
+        counts[refusal != 0] += 1
+    return '\n'.join(lines + [f'total {counts[0]} {counts[1]}', ''])
+
+
+def run(program, pieces):
+    """What the program prints where its input comes in these pieces, with a pause between two."""
+    if len(pieces) == 1:
+        done = subprocess.run([program], input=pieces[0], stdout=subprocess.PIPE)
+        return done.stdout, done.returncode
+    process = subprocess.Popen([program], stdin=subprocess.PIPE, stdout=subprocess.PIPE, bufsize=0)
+    for piece in pieces:
+        process.stdin.write(piece)
+        time.sleep(0.02)
+    output = process.communicate()[0]
+    return output, process.returncode
+
+
+# one whole record of each kind
+PRODUCT = bytes.fromhex('01 01 00 03 00 03 00')
+SINGLE = bytes.fromhex('02 00 00 C0 3F 00 00 C0 3F')
+TABLE = bytes.fromhex('03 FF FF')
+WHOLE = PRODUCT + SINGLE + TABLE
+
+# A record for each refusal of each operation, and the ends of what is taken. Refusals 2 and 4 of the product cannot come from a
+# record: its width is 16, and a field of 16 bits holds no other number.
+EACH_REFUSAL = '''
+product 0 0 3 3                 # 1
+product 5 0 3 3                 # 1
+product 255 255 3 3             # 1, before 3
+product 1 1 3 3                 # 3
+product 2 255 3 3               # 3
+product 3 0 3 3                 # 3
+product 3 16 -32768 32767
+product 3 17 3 3                # 3
+product 4 0 3 3                 # 3
+product 4 15 -32768 -32768
+product 4 16 3 3                # 3
+product 1 0 -32768 32767
+product 2 0 -1 0
+single 0x7F800000 0x00000001    # 8, before 9
+single 0x00000000 0xFFC00000    # 8
+single 0x00000001 0x00000000    # 9, before the zero
+single 0x3F800000 0x807FFFFF    # 9
+single 0x80000000 0x3F800000    # -0
+single 0x80000000 0x80000000    # +0
+single 0x7F000000 0x40000000    # 10
+single 0x00800000 0x3F000000    # 11
+single 0x00C00000 0x3F400000    # the smallest normal number, by the carry
+single 0xBFC00000 0x3FC00000
+table 0 255
+table 1 1
+'''
+
+
+def random_input(rng, length):
+    """Records that mostly are whole and mostly are taken."""
+    data = bytearray()
+    while len(data) < length:
+        kind = rng.choice((1, 1, 2, 2, 3))
+        body = bytearray(rng.randbytes(BODY[kind]))
+        if kind == 1:
+            body[0], body[1] = rng.choice(((1, 0), (2, 0), (3, rng.randint(0, 17)), (4, rng.randint(0, 16)), (rng.randint(0, 6), 0)))
+        data += bytes([kind]) + body
+    return bytes(data[:length])
+
+
+def inputs():
+    yield 'the sample', [(ROOT / 'crates/bench/stdin').read_bytes()]
+    yield 'the example', [records.encode((ROOT / 'examples/sample.txt').read_text(), 'sample')]
+    yield 'empty input', [b'']
+    yield 'each refusal', [records.encode(EACH_REFUSAL, 'refusals')]
+    for kind, record in ((1, PRODUCT), (2, SINGLE), (3, TABLE)):
+        for length in range(1, len(record)):
+            yield f'kind {kind} cut to {length} bytes', [record[:length]]
+            yield f'kind {kind} cut to {length} bytes, last', [WHOLE + record[:length]]
+    for kind in range(256):
+        if kind not in BODY:
+            yield f'kind {kind} first', [bytes([kind]) + WHOLE]
+    for kind in (0, 4, 255):
+        yield f'kind {kind} alone', [bytes([kind])]
+        yield f'kind {kind} last', [WHOLE + bytes([kind])]
+    # 21,845 records of three bytes, each with the most digits that a byte's product has, then one byte: the longest output
+    longest = TABLE * (LIMIT // 3)
+    yield 'the longest output', [longest + bytes([255])]
+    yield 'the longest output, cut', [longest + TABLE[:1]]
+    yield '65,535 bytes', [longest]
+    yield '65,537 bytes', [longest + TABLE[:2]]
+    yield '65,538 bytes', [longest + TABLE]
+    yield '200,000 bytes', [bytes(200000)]
+    yield '65,536 bytes of kind 0', [bytes(LIMIT)]
+    rng = random.Random(20261115)
+    for length in [rng.randint(1, 400) for _ in range(60)] + [LIMIT - 1, LIMIT, LIMIT + 1]:
+        yield f'{length} random bytes', [random_input(rng, length)]
+    yield 'one byte at a time', [WHOLE[i:i + 1] for i in range(len(WHOLE))]
+    data = random_input(rng, LIMIT)
+    yield '65,536 bytes in pieces', [data[:1], data[1:5000], data[5000:65535], data[65535:]]
+    yield '65,537 bytes in pieces', [data[:40000], data[40000:], b'\x01']
+
+
+def main():
+    program, runs = sys.argv[1], 0
+    for what, pieces in inputs():
+        output, status = run(program, pieces)
+        wanted = expected(b''.join(pieces)).encode()
+        if output != wanted or status != 0:
+            print(f'{what}: exit status {status}, {len(output)} bytes printed, {len(wanted)} expected')
+            for count, (given, line) in enumerate(zip(output.split(b'\n'), wanted.split(b'\n')), 1):
+                if given != line:
+                    print(f'line {count}: {given!r} printed, {line!r} expected')
+                    break
+            return 1
+        runs += 1
+    print(f'bench: {runs} runs, 0 wrong')
+    return 0
+
+
+if __name__ == '__main__':
+    sys.exit(main())
