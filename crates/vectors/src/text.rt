@@ -1,38 +1,41 @@
 // Reads the lines of the input and their fields. The caller names the byte that ends a field, a space or, after the last, the
-// line feed, so that a line with more or fewer fields is not read.
+// line feed, so that a line with more or fewer fields is not read. A field that is not read leaves a cursor past every line, at which
+// no later field is read either: a line was read where the cursor after its last field is at its end.
 ghost use Prim.Native.Nat.{_≤_, _<_};
 ghost use lib.ListN.{length};
+use crate::digits::Number;
+use crate::digits::number_of;
 
 // Where the next field starts.
 pub struct Cursor {
     pub at: usize,
 }
 
-// What is read at a cursor, and the cursor after it.
+// The letter that a line starts with, and the cursor after it.
 pub enum Kind {
     Letter(u8, Cursor),
     Unread,
 }
 
-pub enum FieldU32 {
-    Value(u32, Cursor),
-    Unread,
+// The number that stands at a cursor, 0 where none is read, and the cursor after it.
+pub struct FieldU32 {
+    pub value: u32,
+    pub next: Cursor,
 }
 
-pub enum FieldU64 {
-    Value(u64, Cursor),
-    Unread,
+pub struct FieldU64 {
+    pub value: u64,
+    pub next: Cursor,
 }
 
-pub enum FieldI64 {
-    Value(i64, Cursor),
-    Unread,
+pub struct FieldI16 {
+    pub value: i16,
+    pub next: Cursor,
 }
 
-// What a run of bytes spells.
-enum Number {
-    Value(u64),
-    Unread,
+pub struct FieldI64 {
+    pub value: i64,
+    pub next: Cursor,
 }
 
 // Where the line from `start` ends: after its line feed, or with the input.
@@ -47,7 +50,6 @@ pub fn line_end(input: &[u8], start: usize) -> usize
     feed
 }
 
-// The letter that a line starts with.
 pub fn read_kind(line: &[u8]) -> Kind {
     if line.len() < 2 {
         return Kind::Unread;
@@ -58,29 +60,68 @@ pub fn read_kind(line: &[u8]) -> Kind {
     Kind::Letter(line[0], Cursor { at: 2 })
 }
 
-pub fn read_u32(line: &[u8], cursor: Cursor, end: u8) -> FieldU32 {
-    let FieldU64::Value(value, next) = read_u64(line, cursor, end) else {
-        return FieldU32::Unread;
-    };
-    if value < 4294967296 {
-        return FieldU32::Value(value as u32, next);
+// Whether the line was read, by the cursor after its last field.
+pub fn is_read(line: &[u8], last: Cursor) -> bool {
+    last.at == line.len()
+}
+
+// The cursor after a field that is not read.
+fn lost() -> Cursor {
+    Cursor { at: usize::MAX }
+}
+
+// The byte that ends a field.
+pub fn end_of(is_last: bool) -> u8 {
+    if is_last {
+        return b'\n';
     }
-    FieldU32::Unread
+    b' '
+}
+
+pub fn read_u32(line: &[u8], cursor: Cursor, end: u8) -> FieldU32 {
+    let field = read_u64(line, cursor, end);
+    if field.value < 4294967296 {
+        let value = field.value as u32;
+        let next = field.next;
+        return FieldU32 { value, next };
+    }
+    let next = lost();
+    FieldU32 { value: 0, next }
 }
 
 pub fn read_u64(line: &[u8], cursor: Cursor, end: u8) -> FieldU64 {
     let from = cursor.at;
     if line.len() < from {
-        return FieldU64::Unread;
+        return unread();
     }
     let to = bytes::scan::find(line, from, line.len(), end);
     if to == line.len() {
-        return FieldU64::Unread;
+        return unread();
     }
-    match number_of(&line[from..to]) {
-        Number::Value(value) => FieldU64::Value(value, Cursor { at: to + 1 }),
-        Number::Unread => FieldU64::Unread,
+    let Number::Value(value) = number_of(&line[from..to]) else {
+        return unread();
+    };
+    let next = Cursor { at: to + 1 };
+    FieldU64 { value, next }
+}
+
+fn unread() -> FieldU64 {
+    let next = lost();
+    FieldU64 { value: 0, next }
+}
+
+pub fn read_i16(line: &[u8], cursor: Cursor, end: u8) -> FieldI16 {
+    let field = read_i64(line, cursor, end);
+    let wide = field.value;
+    if -32769 < wide {
+        if wide < 32768 {
+            let value = wide as i16;
+            let next = field.next;
+            return FieldI16 { value, next };
+        }
     }
+    let next = lost();
+    FieldI16 { value: 0, next }
 }
 
 pub fn read_i64(line: &[u8], cursor: Cursor, end: u8) -> FieldI64 {
@@ -94,60 +135,25 @@ pub fn read_i64(line: &[u8], cursor: Cursor, end: u8) -> FieldI64 {
 }
 
 fn positive(size: FieldU64) -> FieldI64 {
-    let FieldU64::Value(value, next) = size else {
-        return FieldI64::Unread;
-    };
-    if value < 9223372036854775808 {
-        return FieldI64::Value(value as i64, next);
+    if size.value < 9223372036854775808 {
+        let value = size.value as i64;
+        let next = size.next;
+        return FieldI64 { value, next };
     }
-    FieldI64::Unread
+    let next = lost();
+    FieldI64 { value: 0, next }
 }
 
 fn negative(size: FieldU64) -> FieldI64 {
-    let FieldU64::Value(value, next) = size else {
-        return FieldI64::Unread;
-    };
-    if value == 0 {
-        return FieldI64::Value(0, next);
+    let next = size.next;
+    if size.value == 0 {
+        return FieldI64 { value: 0, next };
     }
-    if value <= 9223372036854775808 {
+    if size.value <= 9223372036854775808 {
         // −v is the complement of v − 1, which fits for the lowest number too
-        return FieldI64::Value(!((value - 1) as i64), next);
+        let value = !((size.value - 1) as i64);
+        return FieldI64 { value, next };
     }
-    FieldI64::Unread
-}
-
-fn number_of(digits: &[u8]) -> Number {
-    if digits.len() == 0 {
-        return Number::Unread;
-    }
-    let mut number = Number::Value(0);
-    let mut i = 0;
-    while i < digits.len() {
-        number = with_digit(number, digits[i]);
-        i += 1;
-    }
-    number
-}
-
-// One digit more, if the byte is one and the number stays below 2^64.
-fn with_digit(number: Number, byte: u8) -> Number {
-    let Number::Value(value) = number else {
-        return Number::Unread;
-    };
-    if byte < b'0' {
-        return Number::Unread;
-    }
-    if b'9' < byte {
-        return Number::Unread;
-    }
-    if u64::MAX / 10 < value {
-        return Number::Unread;
-    }
-    let digit = (byte - b'0') as u64;
-    let tens = value * 10;
-    if u64::MAX - digit < tens {
-        return Number::Unread;
-    }
-    Number::Value(tens + digit)
+    let next = lost();
+    FieldI64 { value: 0, next }
 }

@@ -7,10 +7,10 @@ use Rattle.vectors.proofs.lines.count.Statement.{statement}
 use Rattle.vectors.proofs.lines.count.Tie as tie
 
 abbrev Inv-loop : tie.InvT-loop
-Inv-loop input counts₀ start₀ counts start = Unit {0}
+Inv-loop input store counts₀ start₀ counts start = Unit {0}
 
 abbrev μ-loop : tie.MeasureT-loop
-μ-loop input counts₀ start₀ counts start = length input - start
+μ-loop input store counts₀ start₀ counts start = length input - start
 
 pub count-spec : {M : Type 1} → statement M
 count-spec =

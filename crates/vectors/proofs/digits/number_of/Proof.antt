@@ -3,8 +3,8 @@
 use borrow.Author.Needs.{needs}
 use Prim.Native.Nat.{_-_}
 use lib.ListN.{length}
-use Rattle.vectors.proofs.text.number_of.Statement.{statement}
-use Rattle.vectors.proofs.text.number_of.Tie as tie
+use Rattle.vectors.proofs.digits.number_of.Statement.{statement}
+use Rattle.vectors.proofs.digits.number_of.Tie as tie
 
 abbrev Inv-loop : tie.InvT-loop
 Inv-loop digits number₀ i₀ number i = Unit {0}
