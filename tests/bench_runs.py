@@ -147,6 +147,9 @@ def inputs():
     yield '65,538 bytes', [longest + TABLE]
     yield '200,000 bytes', [bytes(200000)]
     yield '65,536 bytes of kind 0', [bytes(LIMIT)]
+    pairs = b''.join(bytes([3, a, b]) for a in range(256) for b in range(256))
+    for start in range(0, len(pairs), len(longest)):
+        yield f'all pairs of the table, from byte {start}', [pairs[start:start + len(longest)]]
     rng = random.Random(20261115)
     for length in [rng.randint(1, 400) for _ in range(60)] + [LIMIT - 1, LIMIT, LIMIT + 1]:
         yield f'{length} random bytes', [random_input(rng, length)]
