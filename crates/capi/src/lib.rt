@@ -8,6 +8,7 @@ ghost use Rattle.scores.specs.Scaling.{scaledOutcome};
 ghost use Rattle.stores.specs.Stores.{storeRefusal};
 ghost use Rattle.byte_table.specs.Table.{TableProduct};
 ghost use Rattle.floats.specs.Singles.{singleOutcome};
+ghost use Rattle.records.specs.Lines.{Written};
 ghost use Rattle.capi.specs.Structs.{unsignedStruct, signedStruct, reportStruct, scaledStruct, singleStruct};
 
 #[repr(C)]
@@ -168,4 +169,11 @@ pub extern "C" fn highvane_single_product(a: u32, b: u32) -> SingleProduct
             refusal,
         },
     }
+}
+
+#[no_mangle]
+pub extern "C" fn highvane_transcript(input: &[u8], out: &mut [u8; 245760]) -> usize
+    ensures { λ r. ⌜ Written (now (input .entry)) (now (out .entry)) (now (out .exit)) r ⌝ }
+{
+    records::transcript(input, out)
 }

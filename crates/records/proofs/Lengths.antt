@@ -26,10 +26,10 @@ use Rattle.floats.specs.Singles.{Fields, outcome, resultPattern, productFields,
 use Rattle.floats.specs.Singles as Singles
 use Rattle.text.specs.Text.{decimal, signedDecimal}
 use Rattle.text.proofs.Decimals.{decimal-length, signed-length}
-use Rattle.records.specs.Records.{Record, field16, field32, signed16, natural, signedRecord, singleRecord, tableRecord, bodyLength, recordOutcome, recordOf, recordsOf}
+use Rattle.readings.specs.Records.{Record, field16, field32, signed16, natural, signedRecord, singleRecord, tableRecord, bodyLength, recordOutcome, recordOf, recordsOf}
 use Rattle.records.specs.Lines.{outcomeText, line, totalLine, countAccepted, countRefused}
-use Rattle.records.proofs.Signed16.{signed16-size}
-use Rattle.records.proofs.OneRecord.{by-reading, moves}
+use Rattle.readings.proofs.Signed16.{signed16-size}
+use Rattle.readings.proofs.OneRecord.{by-reading, moves}
 use Rattle.records.proofs.Turns.{counts-once, after, after-cons, ended, first-rest, whole}
 
 -- an outcome's number has at most m bytes

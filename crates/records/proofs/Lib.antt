@@ -1,5 +1,3 @@
-pub mod Signed16
-pub mod OneRecord
 pub mod Turns
 pub mod Lengths
 pub mod Limit

@@ -11,9 +11,9 @@ use lib.Seq.{sets, drop-drop}
 use Rattle.designs.specs.Outcomes.{Outcome, accepted, refused}
 use Rattle.text.specs.Text.{Room, Put}
 use Rattle.text.proofs.Writing.{kept, joined}
-use Rattle.records.specs.Records.{Record, recordOf, recordsOf}
+use Rattle.readings.specs.Records.{Record, recordOf, recordsOf}
 use Rattle.records.specs.Lines.{line, lines, totalLine, countAccepted, countRefused, allAccepted, allRefused, printed}
-use Rattle.records.proofs.OneRecord.{moves}
+use Rattle.readings.proofs.OneRecord.{moves}
 
 -- every record counts once
 pub counts-once : (o : Outcome ℤ) → countAccepted o + countRefused o ≡ 1

@@ -1,4 +1,2 @@
-pub mod Records
 pub mod Lines
-pub mod Answers
 pub mod Sample

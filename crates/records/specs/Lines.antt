@@ -9,7 +9,7 @@ use lib.IntN.{ℤ}
 use lib.ListN.{length, take, drop}
 use Rattle.designs.specs.Outcomes.{Outcome, accepted, refused}
 use Rattle.text.specs.Text.{decimal, signedDecimal}
-use Rattle.records.specs.Records.{Record, recordsOf}
+use Rattle.readings.specs.Records.{Record, recordsOf}
 
 -- " ok ", " no ", "total ", a space and a line feed
 abbrev pub okText : List ℕ

@@ -2,19 +2,19 @@
 ghost use mathlib.Core.Path.{_≡_};
 ghost use Rattle.text.specs.Text.{Room, Put};
 ghost use Rattle.records.specs.Lines.{outcomeText, line, totalLine, countAccepted, countRefused};
-ghost use Rattle.records.specs.Answers.{answerGiven, entryGiven};
+ghost use Rattle.readings.specs.Answers.{answerGiven, entryGiven};
 
 // The word of an answer and its number.
-pub(crate) fn put_answer(out: &mut [u8], at: usize, answer: crate::Answer) -> usize
+pub(crate) fn put_answer(out: &mut [u8], at: usize, answer: readings::Answer) -> usize
     requires { ⌜ Room (now out) at (outcomeText (answerGiven answer)) ⌝ }
     ensures { λ r. ⌜ Put (now (out .entry)) at (outcomeText (answerGiven answer)) (now (out .exit)) r ⌝ }
 {
     match answer {
-        crate::Answer::Value(v) => {
+        readings::Answer::Value(v) => {
             let p = crate::writers::put_bytes(out, at, b" ok ");
             crate::writers::put_signed(out, p, v)
         }
-        crate::Answer::Refused(n) => {
+        readings::Answer::Refused(n) => {
             let p = crate::writers::put_bytes(out, at, b" no ");
             crate::writers::put_decimal(out, p, n as u64)
         }
@@ -22,7 +22,7 @@ pub(crate) fn put_answer(out: &mut [u8], at: usize, answer: crate::Answer) -> us
 }
 
 // A record's line.
-pub(crate) fn put_line(out: &mut [u8], at: usize, entry: crate::Entry) -> usize
+pub(crate) fn put_line(out: &mut [u8], at: usize, entry: readings::Entry) -> usize
     requires { ⌜ Room (now out) at (line (entryGiven entry)) ⌝ }
     ensures { λ r. ⌜ Put (now (out .entry)) at (line (entryGiven entry)) (now (out .exit)) r ⌝ }
 {
@@ -44,20 +44,20 @@ pub(crate) fn put_total(out: &mut [u8], at: usize, accepted: u64, refused: u64) 
     crate::writers::put(out, f, b'\n')
 }
 
-pub(crate) fn count_accepted(answer: crate::Answer) -> u64
+pub(crate) fn count_accepted(answer: readings::Answer) -> u64
     ensures { λ r. ⌜ r ≡ countAccepted (answerGiven answer) ⌝ }
 {
     match answer {
-        crate::Answer::Value(_) => 1,
-        crate::Answer::Refused(_) => 0,
+        readings::Answer::Value(_) => 1,
+        readings::Answer::Refused(_) => 0,
     }
 }
 
-pub(crate) fn count_refused(answer: crate::Answer) -> u64
+pub(crate) fn count_refused(answer: readings::Answer) -> u64
     ensures { λ r. ⌜ r ≡ countRefused (answerGiven answer) ⌝ }
 {
     match answer {
-        crate::Answer::Value(_) => 0,
-        crate::Answer::Refused(_) => 1,
+        readings::Answer::Value(_) => 0,
+        readings::Answer::Refused(_) => 1,
     }
 }

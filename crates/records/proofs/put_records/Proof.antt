@@ -6,9 +6,9 @@ use Prim.Native.Nat.{ℕ, _+_, _-_, _≤_, _<_}
 use mathlib.Core.Path.{_≡_, ap, _∙_}
 use mathlib.Core.List.{List}
 use lib.ListN.{length, drop, length-drop}
-use Rattle.records.specs.Records.{recordOf}
-use Rattle.records.specs.Answers.{answerGiven, entryGiven}
-use Rattle.records.proofs.OneRecord.{tail}
+use Rattle.readings.specs.Records.{recordOf}
+use Rattle.readings.specs.Answers.{answerGiven, entryGiven}
+use Rattle.readings.proofs.OneRecord.{tail}
 use Rattle.records.proofs.Turns.{Going, counts-once, done, line-room, start, total-room, turn, used}
 use Rattle.records.proofs.put_records.Statement.{statement}
 use Rattle.records.proofs.put_records.Tie as tie
@@ -37,12 +37,6 @@ forward c = used (s c) (at c) (c .before .before .loop-test .taken) (record-is c
 
 loop-holds : tie.Need-loop-holds Inv-loop μ-loop
 loop-holds c = start _ _
-
-first-record-requires : tie.Need-first-record-requires Inv-loop μ-loop
-first-record-requires c κs =
-    let input = c .before .before .before .before .before .args .s .now in
-    let place = c .before .before .loop .at in
-    rw (tail input place) (omega (arith, length-drop place input, c .before .loop-test .taken))
 
 put-line-requires : tie.Need-put-line-requires Inv-loop μ-loop
 put-line-requires c κs =
@@ -95,7 +89,7 @@ put-records-spec =
     (λ c. search needs)
     (λ c. search needs)
     (λ c. search needs)
-    first-record-requires
+    (λ c κs. search needs)
     put-line-requires
     add-at
     (λ c κs. search needs)

@@ -11,8 +11,8 @@ use Rattle.products.proofs.Integers.{read-back}
 use Rattle.text.specs.Text.{Room, decimal, signedDecimal}
 use Rattle.text.proofs.Writing.{then, room, fit}
 use Rattle.records.specs.Lines.{outcomeText, okText, noText}
-use Rattle.records.specs.Answers.{answerGiven}
-use Rattle.records.specs.declared.Answer.{Answer}
+use Rattle.readings.specs.Answers.{answerGiven}
+use Rattle.readings.specs.declared.Answer.{Answer}
 use Rattle.records.proofs.lines.put_answer.Statement.{statement}
 use Rattle.records.proofs.lines.put_answer.Tie as tie
 

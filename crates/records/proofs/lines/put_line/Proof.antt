@@ -6,8 +6,8 @@ use Prim.Native.Nat.{ℕ}
 use Rattle.text.specs.Text.{decimal}
 use Rattle.text.proofs.Writing.{then, room, fit}
 use Rattle.records.specs.Lines.{line, outcomeText, lineFeed}
-use Rattle.records.specs.Answers.{answerGiven}
-use Rattle.records.specs.declared.Entry.{Entry}
+use Rattle.readings.specs.Answers.{answerGiven}
+use Rattle.readings.specs.declared.Entry.{Entry}
 use Rattle.records.proofs.lines.put_line.Statement.{statement}
 use Rattle.records.proofs.lines.put_line.Tie as tie
 

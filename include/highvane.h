@@ -1,0 +1,164 @@
+/*
+ * Highvane: the arithmetic of a chip that multiplies by adding rough logarithms, in four designs. Every operation takes any
+ * numbers and gives its result, or the number of the first refusal that applies. The source of the archive is proved to do so,
+ * for all inputs.
+ *
+ * In an answer, `refusal` is 0 where the call was accepted. Where it is not 0, it is the refusal's number, every other field is
+ * 0, and no buffer was changed. The refusals of an operation are listed in the order in which they are tried.
+ *
+ * What no proof covers, and the caller owes:
+ * - A pointer is aligned for its type and points at as many elements as the length beside it says. Where that length is 0 the
+ *   pointer is not followed and may be anything, NULL too.
+ * - The buffer that is written (residues, out) overlaps no other argument. Buffers that are only read may overlap or be the same.
+ *
+ * Nothing is kept from one call to the next and nothing is allocated, so threads may call at the same time, each with its own
+ * buffer to write to. This file works as C99 or later and as C++98 or later.
+ */
+#ifndef HIGHVANE_H
+#define HIGHVANE_H
+
+#include <stddef.h>
+#include <stdint.h>
+
+#ifdef __cplusplus
+extern "C" {
+#endif
+
+/* The designs, and the settings that each takes at width w. Rows have width 16. */
+enum highvane_design {
+    HIGHVANE_MITCHELL = 1,      /* 0 */
+    HIGHVANE_NEAREST_POWER = 2, /* 0 */
+    HIGHVANE_STAGED = 3,        /* the stages, 1 to w */
+    HIGHVANE_TRUNCATED = 4      /* the kept bits of each fraction, 1 to w - 1 */
+};
+
+/* The refusals. 17 to 19 stand only in the text of highvane_transcript. */
+enum highvane_refusal {
+    HIGHVANE_ACCEPTED = 0,
+    HIGHVANE_UNKNOWN_DESIGN = 1,        /* the design is not 1 to 4 */
+    HIGHVANE_UNKNOWN_WIDTH = 2,         /* the width is not 8, 16 or 32 */
+    HIGHVANE_WRONG_SETTING = 3,         /* the setting is not one that the design takes */
+    HIGHVANE_OPERAND_OUTSIDE_WIDTH = 4, /* an operand is not 0 to 2^w - 1, or, signed, not -2^(w-1) to 2^(w-1) - 1 */
+    HIGHVANE_LENGTHS_DIFFER = 5,        /* weights and frame differ in length */
+    HIGHVANE_TOO_MANY_PAIRS = 6,        /* the row has more than HIGHVANE_PAIRS_MAX pairs */
+    HIGHVANE_TOO_FEW_RESIDUES = 7,      /* the buffer for the residues is shorter than the row */
+    HIGHVANE_NOT_FINITE = 8,            /* an operand is infinite or NaN */
+    HIGHVANE_SUBNORMAL = 9,             /* an operand is subnormal: exponent field 0, fraction not 0 */
+    HIGHVANE_EXPONENT_TOO_LARGE = 10,   /* the result's exponent field would pass 254 */
+    HIGHVANE_EXPONENT_TOO_SMALL = 11,   /* the result's exponent field would be below 1 */
+    HIGHVANE_WRONG_COLUMNS = 12,        /* the columns are 0 or more than HIGHVANE_PAIRS_MAX */
+    HIGHVANE_BROKEN_STORE = 13,         /* the store's length is not a multiple of the columns */
+    HIGHVANE_NO_SUCH_ROW = 14,          /* the row number is not below the store's length / columns */
+    HIGHVANE_SHIFT_TOO_LARGE = 15,      /* the shift is above HIGHVANE_SHIFT_MAX */
+    HIGHVANE_SIZE_TOO_LARGE = 16,       /* the score or T is above 2^53 in size */
+    HIGHVANE_UNKNOWN_KIND = 17,         /* the record's kind is unknown */
+    HIGHVANE_RECORD_CUT_SHORT = 18,     /* the record's body is cut short */
+    HIGHVANE_INPUT_TOO_LONG = 19        /* the input is longer than HIGHVANE_INPUT_MAX bytes */
+};
+
+#define HIGHVANE_PAIRS_MAX 4096        /* pairs of a row, and columns of a weight store */
+#define HIGHVANE_SHIFT_MAX 40          /* shift of a score that is handed out */
+#define HIGHVANE_INPUT_MAX 65536       /* bytes of records that are read */
+#define HIGHVANE_TRANSCRIPT_MAX 245760 /* bytes lent for a transcript; proved to suffice for every input */
+
+typedef struct { uint64_t product; uint32_t refusal; } highvane_unsigned;
+typedef struct { int64_t product; uint32_t refusal; } highvane_signed;
+typedef struct { int64_t score, true_sum, error; uint64_t magnitude_sum, nonzero_pairs; uint32_t refusal; } highvane_report;
+typedef struct { double score, magnitude_sum; uint32_t refusal; } highvane_scaled;
+typedef struct { float value; uint32_t refusal; } highvane_single;
+
+/*
+ * The design's product of two operands of `width` bits: 8, 16 or 32.
+ * Refusals: 1, 2, 3, 4.
+ */
+highvane_unsigned highvane_product_unsigned(uint32_t design, uint32_t width, uint32_t setting, uint64_t a, uint64_t b);
+
+/*
+ * The same for signed operands: the design works on their sizes, and the product is negative when exactly one operand is.
+ * Refusals: 1, 2, 3, 4.
+ */
+highvane_signed highvane_product_signed(uint32_t design, uint32_t width, uint32_t setting, int64_t a, int64_t b);
+
+/*
+ * Scores a row: pair i is weights[i] and frame[i], and the design works at width 16. An empty row is accepted. The report:
+ *   score          the sum of the pairs' design products
+ *   true_sum       the sum of their true products
+ *   error          true_sum - score
+ *   magnitude_sum  T, the sum of the sizes of the true products
+ *   nonzero_pairs  n, how many pairs hold no 0
+ * residues[i] becomes the true product of pair i less its design product, for each pair of the row; later places keep what they
+ * held.
+ *
+ * Every sum is below 2^43 in size, and the error is bounded by T (not by the size of true_sum, where products cancel):
+ *   designs 1, 2   9 * |error| <= T; for a single pair without a 0, equal exactly when both sizes are 3 * 2^j
+ *   design 3       4^s * |error| <= T, where s is the setting
+ *   design 4       9 * 2^t * |error| <= (2^t + 18) * T + 9 * 2^t * n, where t is the setting
+ *
+ * Refusals: 1, 3, 5, 6, 7.
+ */
+highvane_report highvane_score_row(uint32_t design, uint32_t setting, const int16_t *weights, size_t weights_len,
+                                   const int16_t *frame, size_t frame_len, int64_t *residues, size_t residues_len);
+
+/*
+ * Judges a row of a weight store, in which rows of `columns` weights lie one after another; row numbers start at 0. Gives 0 where
+ * the row is there, `columns` weights from store + row * columns on, and otherwise the refusal's number. No weight is read.
+ * Refusals: 12, 13, 14.
+ */
+uint32_t highvane_row_refusal(const int16_t *store, size_t store_len, size_t columns, size_t row);
+
+/*
+ * Hands out a score and its T, each divided by 2^shift as an exact double: nothing is rounded, and 0 comes out as +0.
+ * Refusals: 15, 16.
+ */
+highvane_scaled highvane_scale(int64_t score, uint64_t magnitude_sum, uint32_t shift);
+
+/*
+ * Mitchell's product of two binary32 numbers, which come as their 32-bit patterns. A zero operand gives zero. The sign of the
+ * result, also of a zero, is minus when exactly one operand's sign is. Nothing is rounded.
+ * Refusals: 8, 9; then, unless an operand is zero, 10, 11.
+ */
+highvane_single highvane_single_product(uint32_t a, uint32_t b);
+
+/*
+ * The product of two bytes by a table of logarithms. It equals design 1 at width 8.
+ * Refusals: none.
+ */
+uint16_t highvane_table_product(uint8_t a, uint8_t b);
+
+/*
+ * Reads records and writes a line for each and then the total, as ASCII text with no 0 at its end. Gives the number of bytes
+ * written; later places of `out` keep what they held. A record is one byte of kind and a body, low bytes first:
+ *   kind 1, 6 bytes  design and setting (a byte each), two signed 16-bit operands: the signed product at width 16
+ *   kind 2, 8 bytes  two 32-bit patterns: the single product, printed as a pattern
+ *   kind 3, 2 bytes  two bytes: the table product
+ * A line is "KIND ok RESULT" or "KIND no REFUSAL", in decimal; the last is "total ACCEPTED REFUSED". A line feed ends each line.
+ *
+ * Refusals stand in the text: 19, whose text is "0 no 19" and "total 0 1" alone; otherwise, for each record, 17 and 18, which end
+ * the reading, and then those of its operation.
+ */
+size_t highvane_transcript(const uint8_t *input, size_t input_len, uint8_t out[HIGHVANE_TRANSCRIPT_MAX]);
+
+/* The archive was compiled for this layout; where a compiler lays the answers out in another way, it stops here. */
+#if defined(__cplusplus) && __cplusplus >= 201103L
+#define HIGHVANE_ASSERT(name, holds) static_assert(holds, #name)
+#elif !defined(__cplusplus) && defined(__STDC_VERSION__) && __STDC_VERSION__ >= 201112L
+#define HIGHVANE_ASSERT(name, holds) _Static_assert(holds, #name)
+#else
+#define HIGHVANE_ASSERT(name, holds) typedef char name[(holds) ? 1 : -1]
+#endif
+
+HIGHVANE_ASSERT(highvane_lengths_have_64_bits, sizeof(size_t) == 8);
+HIGHVANE_ASSERT(highvane_unsigned_layout, sizeof(highvane_unsigned) == 16 && offsetof(highvane_unsigned, refusal) == 8);
+HIGHVANE_ASSERT(highvane_signed_layout, sizeof(highvane_signed) == 16 && offsetof(highvane_signed, refusal) == 8);
+HIGHVANE_ASSERT(highvane_report_layout, sizeof(highvane_report) == 48 && offsetof(highvane_report, magnitude_sum) == 24
+                                            && offsetof(highvane_report, refusal) == 40);
+HIGHVANE_ASSERT(highvane_scaled_layout, sizeof(highvane_scaled) == 24 && offsetof(highvane_scaled, refusal) == 16);
+HIGHVANE_ASSERT(highvane_single_layout, sizeof(highvane_single) == 8 && offsetof(highvane_single, refusal) == 4);
+
+#undef HIGHVANE_ASSERT
+
+#ifdef __cplusplus
+}
+#endif
+
+#endif
