@@ -7,8 +7,8 @@
  * 0, and no buffer was changed. The refusals of an operation are listed in the order in which they are tried.
  *
  * What no proof covers, and the caller owes:
- * - A pointer is aligned for its type and points at as many elements as the length beside it says. Where that length is 0 the
- *   pointer is not followed and may be anything, NULL too.
+ * - A pointer is aligned for its type and points at as many elements as the length beside it says; `out` points at
+ *   HIGHVANE_TRANSCRIPT_MAX bytes. Where a length is 0, its pointer is not followed and may be anything, NULL too.
  * - The buffer that is written (residues, out) overlaps no other argument. Buffers that are only read may overlap or be the same.
  *
  * Nothing is kept from one call to the next and nothing is allocated, so threads may call at the same time, each with its own
@@ -24,12 +24,12 @@
 extern "C" {
 #endif
 
-/* The designs, and the settings that each takes at width w. Rows have width 16. */
+/* The designs, each with the settings that it takes at width w; rows have width 16. */
 enum highvane_design {
-    HIGHVANE_MITCHELL = 1,      /* 0 */
-    HIGHVANE_NEAREST_POWER = 2, /* 0 */
-    HIGHVANE_STAGED = 3,        /* the stages, 1 to w */
-    HIGHVANE_TRUNCATED = 4      /* the kept bits of each fraction, 1 to w - 1 */
+    HIGHVANE_MITCHELL = 1,      /* setting 0 */
+    HIGHVANE_NEAREST_POWER = 2, /* setting 0 */
+    HIGHVANE_STAGED = 3,        /* setting 1 to w: the stages */
+    HIGHVANE_TRUNCATED = 4      /* setting 1 to w - 1: the bits kept of each fraction */
 };
 
 /* The refusals. 17 to 19 stand only in the text of highvane_transcript. */
@@ -101,7 +101,8 @@ highvane_report highvane_score_row(uint32_t design, uint32_t setting, const int1
 
 /*
  * Judges a row of a weight store, in which rows of `columns` weights lie one after another; row numbers start at 0. Gives 0 where
- * the row is there, `columns` weights from store + row * columns on, and otherwise the refusal's number. No weight is read.
+ * the row is there, `columns` weights from store + row * columns on, and otherwise the refusal's number. The answer depends on
+ * the three numbers alone.
  * Refusals: 12, 13, 14.
  */
 uint32_t highvane_row_refusal(const int16_t *store, size_t store_len, size_t columns, size_t row);

@@ -41,15 +41,15 @@ static void figure(enum signedness signedness, uint32_t design, uint32_t width, 
     outcome given = product(signedness, design, width, setting, a, b);
     outcome meant = meant_product(signedness, design, width, setting, a, b);
     compare(given.value == value && meant.value == value && given.refusal == refusal && meant.refusal == refusal,
-            "design %" PRIu32 ", width %" PRIu32 ", setting %" PRIu32 ", %s operands %" PRId64 " and %" PRId64 ": %" PRIu64
-            ", refusal %" PRIu32 "; the second implementation has %" PRIu64 ", refusal %" PRIu32 "; the figure is %" PRIu64
-            ", refusal %" PRIu32 " (modulo 2^64)",
-            design, width, setting, signedness == SIGNED ? "signed" : "unsigned", a, b, (uint64_t)given.value, given.refusal,
-            (uint64_t)meant.value, meant.refusal, (uint64_t)value, refusal);
+            "design %" PRIu32 ", width %" PRIu32 ", setting %" PRIu32 ", %s operands %" PRId64 " and %" PRId64 ": %" PRId64
+            ", refusal %" PRIu32 "; the second implementation has %" PRId64 ", refusal %" PRIu32 "; the figure is %" PRId64
+            ", refusal %" PRIu32 " (products modulo 2^64)",
+            design, width, setting, signedness == SIGNED ? "signed" : "unsigned", a, b, (int64_t)given.value, given.refusal,
+            (int64_t)meant.value, meant.refusal, (int64_t)value, refusal);
 }
 
 static void product_figures(void) {
-    for (size_t i = 0; i < sizeof products / sizeof products[0]; i++) {
+    for (size_t i = 0; i < COUNT(products); i++) {
         wide a = products[i].a, b = products[i].b;
         figure(products[i].signedness, products[i].design, products[i].width, products[i].setting, products[i].a, products[i].b,
                products[i].product, 0);
@@ -90,7 +90,7 @@ static void single_figures(void) {
         {0x00800000, 0x3F000000, 0, 11},
         {0x7F000000, 0x40000000, 0, 10},
     };
-    for (int i = 0; i < 4; i++) {
+    for (size_t i = 0; i < COUNT(singles); i++) {
         highvane_single given = highvane_single_product(singles[i][0], singles[i][1]);
         outcome meant = meant_single(singles[i][0], singles[i][1]);
         compare(memcmp(&given.value, &singles[i][2], 4) == 0 && given.refusal == singles[i][3]

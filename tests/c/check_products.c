@@ -55,8 +55,8 @@ static void judgements(void) {
     for (int i = 0; i < TRIED; i++)
         for (int j = 0; j < TRIED; j++)
             for (int k = 0; k < TRIED; k++)
-                for (int a = 0; a < 5; a++)
-                    for (int b = 0; b < 5; b++) {
+                for (size_t a = 0; a < COUNT(operands); a++)
+                    for (size_t b = 0; b < COUNT(operands); b++) {
                         compare_unsigned(tried[i], tried[j], tried[k], (uint64_t)operands[a], (uint64_t)operands[b]);
                         compare_signed(tried[i], tried[j], tried[k], operands[a], operands[b]);
                     }
@@ -80,8 +80,7 @@ static void boundaries(uint32_t width) {
 
 static void random_products(uint32_t width) {
     for (int i = 0; i < 500000; i++) {
-        uint32_t design = 1 + (uint32_t)(random_number() % 4), first = first_setting(design);
-        uint32_t setting = first + (uint32_t)(random_number() % (last_setting(design, width) - first + 1));
+        uint32_t design = 1 + (uint32_t)(random_number() % 4), setting = random_setting(design, width);
         uint64_t a = random_bits(width), b = random_bits(width);
         compare_unsigned(design, width, setting, a, b);
         compare_signed(design, width, setting, (int64_t)(a / 2) * (i % 2 ? 1 : -1), (int64_t)(b / 2) * (i % 4 < 2 ? 1 : -1));

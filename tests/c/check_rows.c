@@ -22,10 +22,10 @@ static void lengths(void) {
     static const uint32_t design[] = {1, 2, 3, 4, 0, 5, 1, 2, 3, 3, 4, 4}, setting[] = {0, 0, 16, 15, 0, 1, 1, 16, 0, 17, 0, 16};
     random_numbers(weights, MOST);
     random_numbers(frame, MOST);
-    for (int d = 0; d < 12; d++)
-        for (int i = 0; i < 10; i++)
-            for (int j = 0; j < 10; j++)
-                for (int k = 0; k < 10; k++)
+    for (size_t d = 0; d < COUNT(design); d++)
+        for (size_t i = 0; i < COUNT(length); i++)
+            for (size_t j = 0; j < COUNT(length); j++)
+                for (size_t k = 0; k < COUNT(length); k++)
                     for (enum place place = AT_START; place < PLACES; place++)
                         compare_row(&any, &(row){design[d], setting[d], weights, length[i], frame, length[j], length[k]}, place);
     part("rows: answers and all memory, lengths 0 to 4097 of the three slices in every combination");
@@ -35,7 +35,7 @@ static void judgements(void) {
     static const size_t length[][3] = {{0, 0, 0}, {2, 2, 2}, {2, 2, 3}, {2, 2, 1}, {2, 3, 1}};
     for (int i = 0; i < TRIED; i++)
         for (int j = 0; j < TRIED; j++)
-            for (int k = 0; k < 5; k++)
+            for (size_t k = 0; k < COUNT(length); k++)
                 compare_row(&small, &(row){tried[i], tried[j], weights, length[k][0], frame, length[k][1], length[k][2]},
                             j % PLACES);
     part("rows: designs and settings in and out of range with lengths that are right and wrong");
@@ -74,15 +74,15 @@ static void random_rows(void) {
     part("random rows, every design and setting, with two slices and with one");
 }
 
-/* The largest sums. */
+/* The largest sums, and a row that meets the third demand with equality: 24576 is 3 * 2^13. */
 static void full_rows(void) {
     static const int16_t ends[] = {-32768, 32767, 24576, -1, 0};
     for (uint32_t design = 1; design <= 4; design++)
         for (uint32_t setting = first_setting(design); setting <= last_setting(design, 16); setting++)
-            for (int i = 0; i < 5; i++) {
+            for (size_t i = 0; i < COUNT(ends); i++) {
                 for (size_t j = 0; j < 4096; j++) {
                     weights[j] = ends[i];
-                    frame[j] = i < 2 ? ends[i] : ends[j % 5];
+                    frame[j] = i < 3 ? ends[i] : ends[j % COUNT(ends)];
                 }
                 compare_row(&any, &(row){design, setting, weights, 4096, frame, 4096, 4096}, i % PLACES);
             }

@@ -28,10 +28,10 @@ void check_scores(void) {
     size_t scores_len = signed_edges(60, scores), sums_len = edges(62, sums);
     for (int i = 0; i < TRIED; i++) {
         for (size_t j = 0; j < scores_len; j++)
-            for (int k = 0; k < 5; k++)
+            for (size_t k = 0; k < COUNT(some_sums); k++)
                 compare_scaled(scores[j], some_sums[k], tried[i]);
         for (size_t j = 0; j < sums_len; j++)
-            for (int k = 0; k < 6; k++)
+            for (size_t k = 0; k < COUNT(some_scores); k++)
                 compare_scaled(some_scores[k], sums[j], tried[i]);
     }
     part("scores handed out: boundaries of the score and of T, shifts in and out of range");

@@ -18,8 +18,9 @@ void check_singles(void) {
     static const uint32_t fractions[] = {0, 1, 0x3FFFFF, 0x400000, 0x7FFFFF};
     for (uint32_t i = 0; i < 512; i++)
         for (uint32_t j = 0; j < 512; j++)
-            for (int k = 0; k < 25; k++)
-                compare_single(i << 23 | fractions[k / 5], j << 23 | fractions[k % 5]);
+            for (size_t k = 0; k < COUNT(fractions); k++)
+                for (size_t l = 0; l < COUNT(fractions); l++)
+                    compare_single(i << 23 | fractions[k], j << 23 | fractions[l]);
     part("single products with all signs and exponent fields, fractions around the carry");
     for (int i = 0; i < 1000000; i++)
         compare_single((uint32_t)random_number(), (uint32_t)random_number());

@@ -13,7 +13,7 @@ static const size_t tried_sizes[] = {
     0xFFFFFFFF, 0x100000000, 0x100000001, 0x100000008, 0x7FFFFFFFFFFFFFFF, 0x8000000000000000, 0x8000000000000001,
     0xFFFFFFFFFFFFF000, 0xFFFFFFFFFFFFFFFE, 0xFFFFFFFFFFFFFFFF,
 };
-enum { TRIED_SIZES = sizeof tried_sizes / sizeof tried_sizes[0], MOST = 3 * HIGHVANE_PAIRS_MAX };
+enum { MOST = 3 * HIGHVANE_PAIRS_MAX };
 
 static void compare_refusal(const int16_t *store, size_t store_len, size_t columns, size_t row) {
     uint32_t given = highvane_row_refusal(store, store_len, columns, row), meant = meant_row_refusal(store_len, columns, row);
@@ -22,9 +22,9 @@ static void compare_refusal(const int16_t *store, size_t store_len, size_t colum
 }
 
 static void compare_refusals(const int16_t *store, size_t store_len) {
-    for (int i = 0; i < TRIED_SIZES; i++) {
+    for (size_t i = 0; i < COUNT(tried_sizes); i++) {
         size_t columns = tried_sizes[i];
-        for (int j = 0; j < TRIED_SIZES; j++)
+        for (size_t j = 0; j < COUNT(tried_sizes); j++)
             compare_refusal(store, store_len, columns, tried_sizes[j]);
         for (size_t past = 0; columns > 0 && past < 3; past++)
             compare_refusal(store, store_len, columns, store_len / columns - 1 + past);
@@ -32,13 +32,13 @@ static void compare_refusals(const int16_t *store, size_t store_len) {
 }
 
 static void lengths(lent *memory, const int16_t *numbers) {
-    static const size_t length[] = {4094, 4095, 4096, 4097, 4098, 8190, 8191, 8192, 8193, MOST - 1, MOST};
+    static const size_t length[] = {0, 1, 2, 3, 4, 5, 6, 7, 8, 9, 10, 11, 12, 15, 16, 17, 30, 34, 4094, 4095, 4096, 4097, 4098,
+                                    8190, 8191, 8192, 8193, MOST - 1, MOST};
     for (enum place place = AT_START; place < PLACES; place++)
-        for (size_t i = 0; i < 41 + sizeof length / sizeof length[0]; i++) {
-            size_t store_len = i < 41 ? i : length[i - 41];
-            compare_refusals(lend(memory, numbers, store_len * sizeof *numbers, place), store_len);
+        for (size_t i = 0; i < COUNT(length); i++) {
+            compare_refusals(lend(memory, numbers, length[i] * sizeof *numbers, place), length[i]);
             compare(lent_holds(memory, numbers), "highvane_row_refusal(store, %zu, ..) changed the store, or what lies around it",
-                    store_len);
+                    length[i]);
         }
     part("rows of stores of 0 to 12288 numbers, with columns and row numbers of every size");
 }
@@ -62,7 +62,7 @@ static void scored_in_place(lent *memory, const int16_t *numbers) {
     static const size_t columns[] = {1, 2, 3, 7, 8, 9, 4095, 4096};
     static int64_t given_residues[HIGHVANE_PAIRS_MAX], residues[HIGHVANE_PAIRS_MAX];
     const int16_t *frame = numbers + 5;
-    for (int i = 0; i < 8; i++)
+    for (size_t i = 0; i < COUNT(columns); i++)
         for (size_t row = 0; row < 3; row++)
             for (enum place place = AT_START; place < PLACES; place++) {
                 size_t count = columns[i];

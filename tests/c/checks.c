@@ -58,6 +58,11 @@ uint32_t last_setting(uint32_t design, uint32_t width) {
     return design < 3 ? 0 : design == 3 ? width : width - 1;
 }
 
+uint32_t random_setting(uint32_t design, uint32_t width) {
+    uint32_t first = first_setting(design);
+    return first + (uint32_t)(random_number() % (last_setting(design, width) - first + 1));
+}
+
 const uint32_t tried[TRIED] = {
     0, 1, 2, 3, 4, 5, 6, 7, 8, 9, 10, 12, 14, 15, 16, 17, 18, 24, 30, 31, 32, 33, 34, 39, 40, 41, 42, 63, 64, 65, 127, 128,
     255, 256, 257, 258, 259, 260, 264, 272, 288, 65535, 65536, 65537, 65538, 65539, 65540, 65544, 65552, 65568, 0x7FFFFFFF,
@@ -90,6 +95,7 @@ size_t signed_edges(unsigned bits, int64_t numbers[2 * EDGES_MAX]) {
 
 int main(void) {
     check_figures();
+    check_names();
     check_products();
     check_rows();
     check_stores();

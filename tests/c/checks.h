@@ -8,6 +8,8 @@
 #include "lent.h"
 #include "meaning.h"
 
+#define COUNT(array) (sizeof(array) / sizeof((array)[0]))
+
 /* Counts a comparison. Where it failed, prints the message, which gives the inputs and both answers, and ends with status 1. */
 __attribute__((format(printf, 2, 3))) void compare(int equal, const char *message, ...);
 
@@ -21,9 +23,10 @@ void *block(size_t size);
 uint64_t random_number(void);
 uint64_t random_bits(unsigned bits);
 
-/* The settings that a design takes. */
+/* The settings that a design takes, and one of them. */
 uint32_t first_setting(uint32_t design);
 uint32_t last_setting(uint32_t design, uint32_t width);
+uint32_t random_setting(uint32_t design, uint32_t width);
 
 /* Numbers to try as design, width, setting or shift: those that are taken, their neighbours, the same with a high bit set. */
 enum { TRIED = 62 };
@@ -38,6 +41,7 @@ size_t edges(unsigned bits, uint64_t numbers[EDGES_MAX]);
 size_t signed_edges(unsigned bits, int64_t numbers[2 * EDGES_MAX]);
 
 void check_figures(void);
+void check_names(void);
 void check_products(void);
 void check_rows(void);
 void check_stores(void);

@@ -11,7 +11,7 @@ static wide size_of(wide x) {
 /* The k of a nonzero magnitude 2^k + a. */
 static unsigned exponent(wide magnitude) {
     unsigned k = 0;
-    while (power(k + 1) <= magnitude)
+    for (uint64_t halved = (uint64_t)magnitude; halved > 1; halved /= 2)
         k++;
     return k;
 }
@@ -152,16 +152,11 @@ static uint64_t quotient(wide x, uint32_t shift) {
 }
 
 meant_scaled meant_scale(int64_t score, uint64_t magnitude_sum, uint32_t shift) {
-    meant_scaled scaled = {0, 0, 0};
-    if (shift > 40) {
-        scaled.refusal = 15;
-    } else if (size_of(score) > power(53) || magnitude_sum > power(53)) {
-        scaled.refusal = 16;
-    } else {
-        scaled.score = quotient(score, shift);
-        scaled.magnitude_sum = quotient(magnitude_sum, shift);
-    }
-    return scaled;
+    if (shift > 40)
+        return (meant_scaled){0, 0, 15};
+    if (size_of(score) > power(53) || magnitude_sum > power(53))
+        return (meant_scaled){0, 0, 16};
+    return (meant_scaled){quotient(score, shift), quotient(magnitude_sum, shift), 0};
 }
 
 /* Single-precision products. */

@@ -1,7 +1,7 @@
 /*
- * What document 01 says of every operation, in plain C: the second implementation, which the archive is held against. It was
- * written from the document alone. It multiplies and divides where the document does, in numbers of 128 bits, so that nothing
- * which the document writes can overflow.
+ * What document 01 says of every operation, in plain C: the second implementation, which the archive is held against. It keeps to
+ * the document's own formulas and order and shares no code with the library. It multiplies and divides where the document does,
+ * in numbers of 128 bits, so that nothing which the document writes can overflow.
  */
 #ifndef MEANING_H
 #define MEANING_H

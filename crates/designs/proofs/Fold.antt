@@ -1,7 +1,7 @@
 -- The two cases that designs 1 and 4 share: X + s where s < X, and otherwise 2 × s (`carried`). They are a function of X and
 -- y = X + s alone (`fold`), so one sum, one comparison and one doubling serve both; and a change of s by D moves them by at most 2 × D.
 -- Assumes nothing.
-use mathlib.Core.Path.{_≡_}
+use mathlib.Core.Path.{_≡_, sym, ap, _∙_}
 use Prim.Native.Nat.{ℕ, _+_, _-_, _*_, _≤_, _<_}
 use native.Mathlib.Nat.{mul-le-mul-left, mul-lt-mul-of-pos-left}
 use native.Mathlib.Omega.{arith}
@@ -43,3 +43,7 @@ carried-scale c X s p =
     either-lt s X
     (λ h. simp (lt-ltb s X h, lt-ltb (c * s) (c * X) (mul-lt-mul-of-pos-left h p)) (omega arith))
     (λ h. simp (le-ltb s X h, le-ltb (c * s) (c * X) (mul-le-mul-left c h)) (omega arith))
+
+pub fold-scale : (c X s : ℕ) → 0 < c → fold (c * X) (c * (X + s)) ≡ c * fold X (X + s)
+fold-scale c X s p =
+    ap (fold (c * X)) (omega arith) ∙ fold-is (c * X) (c * s) ∙ sym (carried-scale c X s p) ∙ ap (λ (y : ℕ). c * y) (sym (fold-is X s))

@@ -39,7 +39,7 @@ nearest-wrapped w A B k m r pa pb ha hb ek em e =
 pub record Lead (x k lead : ℕ) : Type 0 where
   pub low : 2 ≤ lead
   pub high : lead < 4
-  pub is : k + (lead - 2) ≡ nearPower x
+  pub is : k + lead % 2 ≡ nearPower x
 
 pub lead : (x k : ℕ) → 0 < x → k ≡ log2 x → Lead x k (x * 2 ^ 1 / 2 ^ k)
 unfolding nearPower

@@ -30,5 +30,5 @@ pub(crate) fn rest_of(x: u32, k: u32) -> u32
     requires { ⌜ (0 < x) × (k ≡ log2 x) ⌝ }
     ensures { λ r. ⌜ r ≡ rest x ⌝ }
 {
-    x - (1u32 << k)
+    x & !(1u32 << k)
 }

@@ -36,11 +36,13 @@ fn folded(one: u64, sum: u64) -> u64
     requires { ⌜ (one ≤ sum) × (sum < 3 * one) × (one ≤ 2 ^ 62) ⌝ }
     ensures { λ r. ⌜ r ≡ fold one sum ⌝ }
 {
-    if sum < one + one {
+    let s = sum - one;
+    let twice = s + s;
+    // the greater of the two: 2 × s passes one + s where s passes one
+    if twice < sum {
         return sum;
     }
-    let s = sum - one;
-    s + s
+    twice
 }
 
 // Design 2, nearest power.
@@ -66,22 +68,22 @@ fn near_power(x: u32) -> u32
     ensures { λ r. ⌜ NearPower x r ⌝ }
 {
     let k = log2_floor(x);
-    // the leading two bits of 2 × x, 2 or 3: the second says whether x is at least halfway to 2^(k+1)
+    // the leading two bits of 2 × x, 2 or 3: the lower says whether x is at least halfway to 2^(k+1)
     let lead = (shifted(x, 1) >> k) as u32;
-    k + (lead - 2)
+    k + (lead & 1)
 }
 
 // Design 3, staged: one stage, and what is left of both goes to the next.
 pub fn staged(stages: u32, a: u32, b: u32) -> u64
     ensures { λ r. ⌜ r ≡ product (staged stages) a b ⌝ }
 {
-    if stages == 0 {
-        return 0;
-    }
     if a == 0 {
         return 0;
     }
     if b == 0 {
+        return 0;
+    }
+    if stages == 0 {
         return 0;
     }
     let k = log2_floor(a);
@@ -109,7 +111,8 @@ pub fn truncated(kept_bits: u32, a: u32, b: u32) -> u64
     let one = power(t);
     // each operand over its power is one and its kept fraction; the sum wants one of the two ones, and the carry of 1
     let sum = (shifted(a, t) >> k) + (shifted(b, t) >> m) + 1 - one;
-    scaled(folded(one, sum), k + m, t)
+    // folded at 2^62, from where one shift down leads to every power of the product
+    folded(power(62), sum << (62 - t)) >> (62 - (k + m))
 }
 
 fn at_most_31(t: u32) -> u32
@@ -119,17 +122,6 @@ fn at_most_31(t: u32) -> u32
         return t;
     }
     31
-}
-
-// x × 2^e / 2^t rounded down.
-fn scaled(x: u64, e: u32, t: u32) -> u64
-    requires { ⌜ (t < 64) × (e < 64) × (t ≤ e → x * 2 ^ (e - t) < 2 ^ 64) ⌝ }
-    ensures { λ r. ⌜ r ≡ 2 ^ e * x / 2 ^ t ⌝ }
-{
-    if t <= e {
-        return x << (e - t);
-    }
-    x >> (t - e)
 }
 
 // The product of design 1 to 4 with a setting; design 4 keeps at most 31 bits.

@@ -76,6 +76,7 @@ module _ (design width setting : ℕ) where
 
   -- an accepted setting
   pub record Accepted : Type 0 where
+    pub known : 1 ≤ design
     pub low : 1 ≤ width
     pub high : width ≤ 32
     pub serves : served (designOf design setting) ≡ designOf design setting
@@ -107,6 +108,7 @@ module _ (design width setting : ℕ) where
   unfolding settingRefusal
   accept e =
       record {
+        known = leb-true 1 design (both (leb 1 design) (leb design 4) (tests .design) .0);
         low = width-bounds (tests .width) .0;
         high = width-bounds (tests .width) .1;
         serves = by-design (tests .design) (tests .width) (tests .setting) (λ D. served D ≡ D) refl refl refl (λ h g. ap truncated (min-eq-left g));

@@ -67,13 +67,6 @@ pub fn signed_product(design: u32, width: u32, setting: u32, a: i64, b: i64) -> 
     Signed::Value(signed_of(design, setting, a, b))
 }
 
-// The signed product of two 16-bit numbers, for a caller that has judged the design and the setting itself.
-pub fn signed_pair(design: u32, setting: u32, x: i16, y: i16) -> i64
-    ensures { λ r. ⌜ r ≡ signedProduct (served (designOf design setting)) x y ⌝ }
-{
-    signed_of(design, setting, x as i64, y as i64)
-}
-
 // The signed product of two numbers of at most 32 bits, where it fits.
 fn signed_of(design: u32, setting: u32, a: i64, b: i64) -> i64
     requires { ⌜ Signable (served (designOf design setting)) a b ⌝ }

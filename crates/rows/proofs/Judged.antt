@@ -59,6 +59,7 @@ module _ (design setting : ℕ) (ws fs before : List ℤ) where
   unfolding first rowRefusals settingRefusal
   ready e =
       record {
+        known = settled .known;
         serves = settled .serves;
         keeps = settled .keeps;
         lengths = eqb-true (length ws) (length fs) (tests .lengths);

@@ -1,6 +1,6 @@
 -- What the loop over a row has after i pairs: the report and the residues of the first i pairs, which are a row themselves, with
 -- sizes that grow by at most 2^31 − 1 a pair. One more pair makes it the same of i + 1. Assumes nothing.
-use mathlib.Core.Path.{_≡_, refl, sym, ap₂, _∙_}
+use mathlib.Core.Path.{_≡_, refl, sym, ap, ap₂, _∙_}
 use Prim.Native.Nat.{ℕ, _+_, _*_, _^_, _≤_, _<_}
 use native.Mathlib.Nat.{le-antisymm}
 use native.Mathlib.Numerals.{add-one}
@@ -14,7 +14,7 @@ use Rattle.designs.specs.Signs.{signedProduct, residue}
 use Rattle.designs.specs.Rows.{Report, report, residues, pairwise, sumℤ, sum, nonzero}
 use Rattle.designs.proofs.Prefixes.{pairwise-length, pairwise-more, sumℤ-more, sum-more, written-more}
 use Rattle.designs.proofs.Sizes.{cross, size-add}
-use Rattle.rows.proofs.Pair.{PairOf, most}
+use Rattle.rows.proofs.Pair.{Bounds, most}
 
 -- the report of the first i pairs
 abbrev pub part : Design → List ℤ → List ℤ → ℕ → Report
@@ -52,47 +52,61 @@ start D ws fs before =
       error-size = omega arith;
     }
 
-module _ (D : Design) (ws fs before after : List ℤ) (i : ℕ) (score trueSum p t : ℤ) (T n s f : ℕ) (h : i < length ws) (lengths : length ws ≡ length fs)
+module _ (D : Design) (ws fs before after : List ℤ) (i : ℕ) (score trueSum : ℤ) (T n : ℕ) (h : i < length ws) (lengths : length ws ≡ length fs)
     (places : length ws ≤ length before) (so-far : SoFar D ws fs before after i score trueSum T n)
-    (next-pair : PairOf D (getD ws i (pos 0)) (getD fs i (pos 0)) p t s f) where
+    (small : Bounds D (getD ws i (pos 0)) (getD fs i (pos 0))) where
+  abbrev w : ℤ
+  w = getD ws i (pos 0)
+
+  abbrev x : ℤ
+  x = getD fs i (pos 0)
+
   g : i < length fs
   g = omega arith
 
   -- a sum over the first i + 1 pairs
-  moreℤ : (q : ℤ → ℤ → ℤ) → sumℤ (pairwise q (take (i + 1) ws) (take (i + 1) fs)) ≡ sumℤ (pairwise q (take i ws) (take i fs)) +ℤ q (getD ws i (pos 0)) (getD fs i (pos 0))
+  moreℤ : (q : ℤ → ℤ → ℤ) → sumℤ (pairwise q (take (i + 1) ws) (take (i + 1) fs)) ≡ sumℤ (pairwise q (take i ws) (take i fs)) +ℤ q w x
   moreℤ q = rw (add-one i, pairwise-more q i ws fs (pos 0) h g) (sumℤ-more (pairwise q (take i ws) (take i fs)) _)
 
-  more : (q : ℤ → ℤ → ℕ) → sum (pairwise q (take (i + 1) ws) (take (i + 1) fs)) ≡ sum (pairwise q (take i ws) (take i fs)) + q (getD ws i (pos 0)) (getD fs i (pos 0))
+  more : (q : ℤ → ℤ → ℕ) → sum (pairwise q (take (i + 1) ws) (take (i + 1) fs)) ≡ sum (pairwise q (take i ws) (take i fs)) + q w x
   more q = rw (add-one i, pairwise-more q i ws fs (pos 0) h g) (sum-more (pairwise q (take i ws) (take i fs)) _)
 
-  residue-is : t -ℤ p ≡ residue D (getD ws i (pos 0)) (getD fs i (pos 0))
-  unfolding residue
-  residue-is = ap₂ (λ (u v : ℤ). u -ℤ v) (next-pair .true-product) (next-pair .product-is)
-
-  written-next : set after i (t -ℤ p) ≡ residues D (take (i + 1) ws) (take (i + 1) fs) ++ drop (i + 1) before
+  written-next : set after i (residue D w x) ≡ residues D (take (i + 1) ws) (take (i + 1) fs) ++ drop (i + 1) before
   unfolding residues
   written-next =
-      rw (so-far .written, residue-is, add-one i, pairwise-more (residue D) i ws fs (pos 0) h g)
-      (written-more (pairwise (residue D) (take i ws) (take i fs)) before i (residue D (getD ws i (pos 0)) (getD fs i (pos 0)))
+      rw (so-far .written, add-one i, pairwise-more (residue D) i ws fs (pos 0) h g)
+      (written-more (pairwise (residue D) (take i ws) (take i fs)) before i (residue D w x)
       (pairwise-length (residue D) i ws fs (omega arith) (omega arith)) (omega arith))
 
-  pub next : SoFar D ws fs before (set after i (t -ℤ p)) (i + 1) (score +ℤ p) (trueSum +ℤ t) (T + s) (n + f)
+  error-next : natAbs ((trueSum +ℤ w *ℤ x) -ℤ (score +ℤ signedProduct D w x)) ≤ (i + 1) * most
+  unfolding residue
+  error-next =
+      rw (cross trueSum (w *ℤ x) score (signedProduct D w x))
+      (omega (arith, size-add (trueSum -ℤ score) (w *ℤ x -ℤ signedProduct D w x), so-far .error-size, small .residue-size))
+
+  pub next : SoFar D ws fs before (set after i (residue D w x)) (i + 1) (score +ℤ signedProduct D w x) (trueSum +ℤ w *ℤ x) (T + natAbs (w *ℤ x)) (n + nonzero w x)
   unfolding report
   next =
       record {
         within = omega arith;
-        score-is = ap₂ _+ℤ_ (so-far .score-is) (next-pair .product-is) ∙ sym (moreℤ (signedProduct D));
-        true-is = ap₂ _+ℤ_ (so-far .true-is) (next-pair .true-product) ∙ sym (moreℤ _*ℤ_);
-        magnitude-is = ap₂ _+_ (so-far .magnitude-is) (next-pair .size) ∙ sym (more (λ w x. natAbs (w *ℤ x)));
-        pairs-is = ap₂ _+_ (so-far .pairs-is) (next-pair .full) ∙ sym (more nonzero);
+        score-is = ap (λ (z : ℤ). z +ℤ signedProduct D w x) (so-far .score-is) ∙ sym (moreℤ (signedProduct D));
+        true-is = ap (λ (z : ℤ). z +ℤ w *ℤ x) (so-far .true-is) ∙ sym (moreℤ _*ℤ_);
+        magnitude-is = ap (λ (k : ℕ). k + natAbs (w *ℤ x)) (so-far .magnitude-is) ∙ sym (more (λ w x. natAbs (w *ℤ x)));
+        pairs-is = ap (λ (k : ℕ). k + nonzero w x) (so-far .pairs-is) ∙ sym (more nonzero);
         written = written-next;
         same = simp length-set (so-far .same);
-        score-size = omega (arith, size-add score p, so-far .score-size, next-pair .product-size);
-        true-size = omega (arith, size-add trueSum t, so-far .true-size, next-pair .true-size);
-        magnitude-size = omega (arith, so-far .magnitude-size, next-pair .size-small);
-        pairs-size = omega (arith, so-far .pairs-size, next-pair .full-small);
-        error-size = rw (cross trueSum t score p) (omega (arith, size-add (trueSum -ℤ score) (t -ℤ p), so-far .error-size, next-pair .residue-size));
+        score-size = omega (arith, size-add score (signedProduct D w x), so-far .score-size, small .product-size);
+        true-size = omega (arith, size-add trueSum (w *ℤ x), so-far .true-size, small .true-size);
+        magnitude-size = omega (arith, so-far .magnitude-size, small .true-size);
+        pairs-size = omega (arith, so-far .pairs-size, small .full-size);
+        error-size = error-next;
       }
+
+-- the same of equal numbers
+pub equally : {D : Design} {ws fs before after after' : List ℤ} {i : ℕ} {score score' trueSum trueSum' : ℤ} {T T' n n' : ℕ}
+    → after' ≡ after → score' ≡ score → trueSum' ≡ trueSum → T' ≡ T → n' ≡ n
+    → SoFar D ws fs before after i score trueSum T n → SoFar D ws fs before after' i score' trueSum' T' n'
+equally ea es et eT en so-far = rw (ea, es, et, eT, en) so-far
 
 -- all pairs have been scored
 pub finished : (D : Design) (ws fs before after : List ℤ) (i : ℕ) (score trueSum : ℤ) (T n : ℕ) → length ws ≤ i → length ws ≡ length fs

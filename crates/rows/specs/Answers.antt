@@ -39,6 +39,7 @@ pub record Scoring (design setting : ℕ) (ws fs before after : List ℤ) (answe
 
 -- a row that can be scored
 pub record Ready (design setting : ℕ) (ws fs before : List ℤ) : Type 0 where
+  pub known : 0 < design
   pub serves : served (designOf design setting) ≡ designOf design setting
   pub keeps : KeepsBit (designOf design setting)
   pub lengths : length ws ≡ length fs

@@ -24,16 +24,26 @@ pub(crate) fn accumulate(
     while i < weights.len() {
         let w = weights[i];
         let x = frame[i];
-        let product = products::signed_pair(design, setting, w, x);
-        let truth = crate::pairs::true_product(w, x);
-        let size = products::magnitude(truth);
-        let full = crate::pairs::count(size);
-        score += product;
-        true_sum += truth;
-        magnitude_sum += size;
-        nonzero_pairs += full;
-        write(residues, i, truth - product);
+        let at = i;
         i += 1;
+        if crate::pairs::has_zero(w, x) {
+            write(residues, at, 0);
+        } else {
+            let truth = crate::pairs::true_product(w, x);
+            let product = crate::pairs::product_of_sizes(design, setting, w, x);
+            true_sum += truth;
+            nonzero_pairs += 1;
+            // both products have the sign of the true one
+            if truth < 0 {
+                score -= product;
+                magnitude_sum += products::magnitude(truth);
+                write(residues, at, truth + product);
+            } else {
+                score += product;
+                magnitude_sum += products::magnitude(truth);
+                write(residues, at, truth - product);
+            }
+        }
     }
     RowReport {
         score,

@@ -34,8 +34,8 @@ pub fn transcript(input: &[u8]) -> Vec<u8> {
 /// assert_eq!(&buffer[..12], b"total 0 0\n..");
 /// ```
 pub fn transcript_into<'b>(input: &[u8], buffer: &'b mut [u8; TRANSCRIPT_MAX]) -> &'b [u8] {
-    // SAFETY: the input's pointer goes with its own length, and the input is only read. The buffer has room for any transcript, and
-    // is lent to the call alone.
+    // SAFETY: the input's pointer goes with its own length, and the input is only read. The buffer has room for any transcript,
+    // and is lent to the call alone.
     let written = unsafe { ffi::highvane_transcript(input.as_ptr(), input.len(), buffer.as_mut_ptr()) };
     &buffer[..written]
 }

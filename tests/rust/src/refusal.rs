@@ -19,8 +19,8 @@ pub enum Refusal {
     UnknownDesign = 1,
     /// 2: the width is not 8, 16 or 32.
     UnknownWidth = 2,
-    /// 3: the setting is not one that the design takes at the width w, which is 16 for a row. Designs 1 and 2 take 0, design 3 takes
-    /// 1 to w stages, design 4 takes 1 to w − 1 kept bits.
+    /// 3: the setting is not one that the design takes at the width w, which is 16 for a row. Designs 1 and 2 take 0, design 3
+    /// takes 1 to w stages, design 4 takes 1 to w − 1 kept bits.
     SettingNotTaken = 3,
     /// 4: an operand is outside the width.
     OperandOutsideWidth = 4,

@@ -1,4 +1,5 @@
--- `folded` tests and doubles as `fold` does. Assumes nothing.
+-- `folded` gives the greater of one + s and 2 × s, and s is below one exactly where one + s is the greater, as `fold` tests it.
+-- Assumes nothing.
 use borrow.Author.Needs.{needs}
 use Prim.Native.Nat.{_*_}
 use borrow.Author.Tests.{lt-ltb, le-ltb}
@@ -13,4 +14,4 @@ returns-2 : tie.Need-returns-2
 returns-2 c = simp (le-ltb (c .before .args .sum) (2 * c .before .args .one) (omega arith)) (omega arith)
 
 pub folded-spec : {M : Type 1} → statement M
-folded-spec = tie.close (tie.spec (λ c. search needs) returns (λ c. search needs) (λ c. search needs) returns-2)
+folded-spec = tie.close (tie.spec (λ c. search needs) (λ c. search needs) returns returns-2)

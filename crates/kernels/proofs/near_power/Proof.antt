@@ -1,6 +1,8 @@
 -- `near_power` reads the leading two bits of 2 × x. Assumes nothing.
 use borrow.Author.Needs.{needs}
-use Prim.Native.Nat.{_/_, _^_}
+use mathlib.Core.Path.{_≡_}
+use Prim.Native.Nat.{_/_, _%_, _^_}
+use lib.Bits.{bitAnd, and-mask}
 use Rattle.kernels.proofs.Wrapping.{Lead, lead}
 use native.Mathlib.Omega.{arith}
 use Rattle.kernels.proofs.near_power.Statement.{statement}
@@ -9,17 +11,17 @@ use Rattle.kernels.proofs.near_power.Tie as tie
 lead-at : (c : tie.After-shifted) → Lead (c .before .before .args .x) (c .before .log2-floor .result) (c .shifted .result / 2 ^ c .before .log2-floor .result)
 lead-at c = rw (c .shifted .ensures) (lead _ _ (c .before .before .pre) (c .before .log2-floor .ensures .is))
 
+low-digit : (c : tie.After-shifted) → bitAnd (c .shifted .result / 2 ^ c .before .log2-floor .result) 1 ≡ (c .shifted .result / 2 ^ c .before .log2-floor .result) % 2
+low-digit c = and-mask _ 1
+
 cast-lead-2 : tie.Need-cast-lead-2
 cast-lead-2 c = omega (arith, lead-at c)
 
-sub-result : tie.Need-sub-result
-sub-result c = omega (arith, lead-at c)
-
 add-result : tie.Need-add-result
-add-result c = omega (arith, lead-at c)
+add-result c = rw (low-digit c) (omega (arith, lead-at c))
 
 returns : tie.Need-returns
-returns c = record { is = lead-at c .is; small = omega (arith, lead-at c) }
+returns c = rw (low-digit c) (record { is = lead-at c .is; small = omega (arith, lead-at c) })
 
 pub near-power-spec : {M : Type 1} → statement M
 near-power-spec =
@@ -30,6 +32,5 @@ near-power-spec =
     (λ c. search needs)
     (λ c. search needs)
     cast-lead-2
-    sub-result
     add-result
     returns)

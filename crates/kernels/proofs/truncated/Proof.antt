@@ -1,9 +1,9 @@
--- `truncated` adds both operands over their powers, folds the sum less one 2^t, and scales it. Assumes nothing.
+-- `truncated` adds both operands over their powers, moves the sum less one 2^t up to 2^62, folds it there and shifts it down.
+-- Assumes nothing.
 use borrow.Author.Needs.{needs}
-use mathlib.Core.Path.{_≡_, ap, _∙_}
-use Prim.Native.Nat.{ℕ, _+_, _/_, _^_, _<_}
-use native.Mathlib.Nat.{le-of-suc-le-suc, min-le-right}
-use lib.Pow.{pow-mono}
+use mathlib.Core.Path.{_≡_, ap, ap₂, _∙_}
+use Prim.Native.Nat.{ℕ, _+_, _-_, _*_, _/_, _%_, _^_, _<_}
+use native.Mathlib.Nat.{min-le-right, mod-eq-of-lt}
 use Rattle.designs.specs.Designs.{truncated, product}
 use Rattle.designs.proofs.Fold.{fold}
 use Rattle.designs.proofs.Zeros.{zero-left, zero-right}
@@ -31,12 +31,6 @@ total-of c = total (c .before .before .at-most-31 .result) (c .before .before .b
 whole : (c : tie.After-shifted2) → all c ≡ 2 ^ c .before .before .before .before .before .at-most-31 .result + total-of (c .before .before .before)
 whole c = rw (c .before .shifted .ensures, c .shifted2 .ensures) (sum-at (c .before .before .before) .whole)
 
-folded-is : (c : tie.After-folded) → c .folded .result ≡ fold (2 ^ c .before .before .before .before .before .before .at-most-31 .result) (total-of (c .before .before .before .before))
-folded-is c =
-    c .folded .ensures
-    ∙ rw (c .before .before .before .power .ensures)
-    (ap (fold (2 ^ c .before .before .before .before .before .before .at-most-31 .result)) (omega (arith, whole (c .before))))
-
 returns : tie.Need-returns
 returns c = zero-left (truncated _) _ _ (c .if1 .taken)
 
@@ -61,19 +55,42 @@ add-sum-2 c = omega (arith, whole c, sum-at (c .before .before .before))
 sub-sum : tie.Need-sub-sum
 sub-sum c = rw (c .before .before .power .ensures) (omega (arith, whole c))
 
-folded-requires : tie.Need-folded-requires
-folded-requires c κs = rw (c .before .before .power .ensures) (omega (arith, whole c, sum-at (c .before .before .before), pow-mono (le-of-suc-le-suc (small (c .before .before .before)))))
+-- the sum less one 2^t, moved up: no digit is lost
+abbrev logs : tie.After-power2 → tie.After-log2-floor2
+logs c = c .before .before .before .before
 
-scaled-requires : tie.Need-scaled-requires
-scaled-requires c κs =
-    let logs = c .before .before .before .before in
-    (omega (arith, small logs), omega (arith, logs .before .log2-floor .ensures .small, logs .log2-floor2 .ensures .small), rw (folded-is c) (sum-at logs .scaled))
+abbrev up : tie.After-power2 → ℕ
+up c = 2 ^ (62 - logs c .before .before .at-most-31 .result)
+
+moved : (c : tie.After-power2) → (all (c .before) - c .before .before .before .power .result) * up c % 2 ^ 64 ≡ total-of (logs c) * up c
+moved c =
+    ap (λ (x : ℕ). x * up c % 2 ^ 64) (omega (arith, whole (c .before), c .before .before .before .power .ensures))
+    ∙ mod-eq-of-lt (omega (arith, sum-at (logs c) .high))
+
+shl-folded : tie.Need-shl-folded
+shl-folded c = omega arith
+
+folded-requires : tie.Need-folded-requires
+folded-requires c κs = rw (c .power2 .ensures, moved c) (sum-at (logs c) .low, sum-at (logs c) .high, omega arith)
+
+add-result : tie.Need-add-result
+add-result c = omega (arith, sum-at (logs (c .before)) .small)
+
+sub-result : tie.Need-sub-result
+sub-result c = sum-at (logs (c .before)) .small
+
+cast-result : tie.Need-cast-result
+cast-result c = omega arith
+
+shr-result : tie.Need-shr-result
+shr-result c = omega arith
 
 returns-3 : tie.Need-returns-3
 returns-3 c =
-    let logs = c .before .before .before .before .before in
-    c .scaled .ensures ∙ rw (folded-is (c .before)) (sum-at logs .is)
-    ∙ ap (λ (t : ℕ). product (truncated t) (logs .before .before .before .before .before .args .a) (logs .before .before .before .before .before .args .b)) (logs .before .before .at-most-31 .ensures)
+    let at = logs (c .before) in
+    let start = at .before .before .before .before .before in
+    ap (λ (x : ℕ). x / 2 ^ (62 - (at .before .log2-floor .result + at .log2-floor2 .result))) (c .folded .ensures ∙ ap₂ fold (c .before .power2 .ensures) (moved (c .before)))
+    ∙ sum-at at .is ∙ ap (λ (t : ℕ). product (truncated t) (start .args .a) (start .args .b)) (at .before .before .at-most-31 .ensures)
 
 pub truncated-spec : {M : Type 1} → statement M
 truncated-spec =
@@ -94,7 +111,13 @@ truncated-spec =
     add-sum
     add-sum-2
     sub-sum
-    folded-requires
+    (λ c κs. search needs)
     (λ c. search needs)
-    scaled-requires
+    (λ c. search needs)
+    shl-folded
+    folded-requires
+    add-result
+    sub-result
+    cast-result
+    shr-result
     returns-3)

@@ -33,7 +33,7 @@ const PARTS: [Part; 20] = [
     ("products: every design, width and setting near the known ones", 1, products::numbers),
     ("products: seeded", 10, products::seeded),
     ("byte table: all pairs", 1, products::byte_table),
-    ("rows: 0 to 40 pairs, every design and setting", 4, rows::short),
+    ("rows: 0 to 40 pairs, every design and setting", 12, rows::short),
     ("rows: at the bound and beside it", 2, rows::at_the_bound),
     ("rows: 4,095 to 4,098 pairs, every design and setting", 2, rows::long),
     ("rows: damaged", 4, rows::damaged),
@@ -75,8 +75,8 @@ fn main() -> ExitCode {
     }
 }
 
-/// Runs all parts on all processors, and gives the tally of each. The seed of a run depends on its place in the list alone, so the
-/// inputs are the same on any number of processors.
+/// Runs all parts on all processors, and gives the tally of each. The seed of a run depends on its place in the list alone, so
+/// the inputs are the same on any number of processors.
 fn run(seed: u64) -> Vec<Tally> {
     let jobs: Vec<usize> = PARTS.iter().enumerate().flat_map(|(at, part)| vec![at; part.1]).collect();
     let next = AtomicUsize::new(0);

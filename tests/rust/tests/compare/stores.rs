@@ -6,13 +6,13 @@ use crate::meaning::stores;
 use crate::random::Random;
 use crate::tally::Tally;
 
-/// One search. What comes back has to be that very part of the store, so it is compared by its address and its length.
+/// One search. What comes back has to be that very part of the store, so it is compared by where it lies, in bytes from the start
+/// of the store, and by its length.
 fn compare(store: &[i16], columns: usize, row: usize, tally: &mut Tally) {
-    let given = row_of(store, columns, row).map(|part| part.as_ptr_range());
-    let meant = stores::outcome(store.len(), columns, row).map(|places| store[places].as_ptr_range());
-    tally.outcome(given, meant, || {
-        format!("store of {} numbers at {:?}, {columns} columns, row {row}", store.len(), store.as_ptr())
-    });
+    let lies = |part: &[i16]| (part.as_ptr().addr().wrapping_sub(store.as_ptr().addr()), part.len());
+    let given = row_of(store, columns, row).map(lies);
+    let meant = stores::outcome(store.len(), columns, row).map(|places| (2 * places.start, places.len()));
+    tally.outcome(given, meant, || format!("store of {} numbers, {columns} columns, row {row}", store.len()));
 }
 
 /// Every small store, with every number of columns and every row number near it.

@@ -1,19 +1,27 @@
 -- The loop keeps what `SoFar` says: after i pairs, the report and the residues of the first i. At most 4,096 pairs of at most
 -- 2^31 − 1 each stay below 2^43. Assumes nothing.
 use borrow.Author.Needs.{needs}
-use mathlib.Core.Path.{_≡_}
-use Prim.Native.Nat.{ℕ, _+_, _-_, _≤_}
+use borrow.Author.Tests.{eqb-true, eqb-false}
+use mathlib.Core.Path.{_≡_, sym, ap, ap₂, _∙_}
+use mathlib.Core.Bool.{Bool}
+use mathlib.Core.List.{List}
+use Prim.Native.Nat.{ℕ, _+_, _-_, _^_, _≤_, _<_}
+use native.Mathlib.Nat.{add-zero}
 use native.Mathlib.Omega.{arith}
-use lib.IntN.{ℤ, pos, _+ℤ_, _-ℤ_}
+use lib.Dec.{eqb}
+use lib.IntN.{ℤ, pos, negℤ, natAbs, _+ℤ_, _-ℤ_, _*ℤ_, +ℤ-idr, negℤ-negℤ}
 use lib.ListN.{length, getD, set}
+use lib.Signed.{ltZ}
 use mir.Syntax.{w16, w64}
 use mir.Val.{SFits, toZ, ofZ}
 use mir.Facts.{toZ-ofZ}
-use Rattle.designs.specs.Designs.{Design}
+use Rattle.designs.specs.Designs.{Design, product}
 use Rattle.designs.specs.Products.{designOf}
-use Rattle.products.proofs.Integers.{read-back, sized}
-use Rattle.rows.proofs.Pair.{PairOf, pair}
-use Rattle.rows.proofs.SoFar.{SoFar, start, next, finished, finished-residues}
+use Rattle.designs.specs.Rows.{nonzero}
+use Rattle.designs.specs.Signs.{negative, signedProduct, residue}
+use Rattle.products.proofs.Integers.{read-back, sized, tested}
+use Rattle.rows.proofs.Pair.{Bounds, bounds, counted, minus-product, plus-product, zero-pair}
+use Rattle.rows.proofs.SoFar.{SoFar, start, next, equally, finished, finished-residues}
 use Rattle.rows.proofs.sums.accumulate.Statement.{statement}
 use Rattle.rows.proofs.sums.accumulate.Tie as tie
 
@@ -25,18 +33,21 @@ abbrev μ-loop : tie.MeasureT-loop
 μ-loop design setting weights frame residues₀ score₀ true-sum₀ magnitude-sum₀ nonzero-pairs₀ i₀ residues score true-sum magnitude-sum nonzero-pairs i =
     length weights - i
 
--- one turn, when its pair has been computed
+loop-holds : tie.Need-loop-holds Inv-loop μ-loop
+loop-holds c = start _ _ _ _
+
+-- one turn, when its pair has been read
 abbrev Turn : Type 0
-Turn = tie.After-count Inv-loop μ-loop
+Turn = tie.After-x Inv-loop μ-loop
 
 abbrev entry : Turn → tie.Start Inv-loop μ-loop
-entry c = c .before .before .before .before .before .before .before .before
+entry c = c .before .before .before .before
 
 abbrev D : Turn → Design
 D c = designOf (entry c .args .design) (entry c .args .setting)
 
 abbrev i : Turn → ℕ
-i c = c .before .before .before .before .before .before .before .loop .i
+i c = c .before .before .before .loop .i
 
 abbrev w : Turn → ℤ
 w c = getD (entry c .args .weights .now) (i c) (pos 0)
@@ -44,86 +55,190 @@ w c = getD (entry c .args .weights .now) (i c) (pos 0)
 abbrev x : Turn → ℤ
 x c = getD (entry c .args .frame .now) (i c) (pos 0)
 
-abbrev p : Turn → ℤ
-p c = c .before .before .before .signed-pair .result
-
-abbrev t : Turn → ℤ
-t c = c .before .before .true-product .result
-
 w-fits : (c : Turn) → SFits w16 (w c)
-w-fits c = record { sfits = c .before .before .before .before .before .w .given }
+w-fits c = record { sfits = c .before .w .given }
 
 x-fits : (c : Turn) → SFits w16 (x c)
-x-fits c = record { sfits = c .before .before .before .before .x .given }
+x-fits c = record { sfits = c .x .given }
 
-p-back : (c : Turn) → toZ w64 (ofZ w64 (p c)) ≡ p c
-p-back c = read-back (p c) (c .before .before .before .signed-pair .ok)
+abbrev scored : Turn → ℤ
+scored c = toZ w64 (c .before .before .before .loop .score) +ℤ signedProduct (D c) (w c) (x c)
 
-t-back : (c : Turn) → toZ w64 (ofZ w64 (t c)) ≡ t c
-t-back c = read-back (t c) (c .before .before .true-product .ok)
+abbrev summed : Turn → ℤ
+summed c = toZ w64 (c .before .before .before .loop .true-sum) +ℤ w c *ℤ x c
 
-pair-at : (c : Turn) → PairOf (D c) (w c) (x c) (p c) (t c) (c .before .magnitude .result) (c .count .result)
-pair-at c =
-    pair (D c) (w c) (x c) (p c) (t c) _ _ (entry c .pre .keeps) (w-fits c) (x-fits c)
-    (simp (toZ-ofZ (w-fits c), toZ-ofZ (x-fits c), entry c .pre .serves) at (c .before .before .before .signed-pair .ensures))
-    (simp (toZ-ofZ (w-fits c), toZ-ofZ (x-fits c)) at (c .before .before .true-product .ensures))
-    (simp (t-back c) at (c .before .magnitude .ensures))
-    (c .count .ensures)
+small : (c : Turn) → Bounds (D c) (w c) (x c)
+small c = bounds (D c) (w c) (x c) (entry c .pre .keeps) (w-fits c) (x-fits c)
 
 next-at : (c : Turn)
     → SoFar (D c) (entry c .args .weights .now) (entry c .args .frame .now) (entry c .args .residues .now)
-    (set (c .before .before .before .before .before .before .before .loop .residues) (i c) (t c -ℤ p c)) (i c + 1)
-    (toZ w64 (c .before .before .before .before .before .before .before .loop .score) +ℤ p c)
-    (toZ w64 (c .before .before .before .before .before .before .before .loop .true-sum) +ℤ t c)
-    (c .before .before .before .before .before .before .before .loop .magnitude-sum + c .before .magnitude .result)
-    (c .before .before .before .before .before .before .before .loop .nonzero-pairs + c .count .result)
-next-at c =
-    next (D c) _ _ _ _ (i c) _ _ (p c) (t c) _ _ _ _ (omega arith) (entry c .pre .lengths) (entry c .pre .places)
-    (c .before .before .before .before .before .before .before .loop .inv) (pair-at c)
+    (set (c .before .before .before .loop .residues) (i c) (residue (D c) (w c) (x c))) (i c + 1) (scored c) (summed c)
+    (c .before .before .before .loop .magnitude-sum + natAbs (w c *ℤ x c)) (c .before .before .before .loop .nonzero-pairs + nonzero (w c) (x c))
+next-at c = next (D c) _ _ _ _ (i c) _ _ _ _ (omega arith) (entry c .pre .lengths) (entry c .pre .places) (c .before .before .before .loop .inv) (small c)
 
-score-fits : (c : Turn) → SFits w64 (toZ w64 (c .before .before .before .before .before .before .before .loop .score) +ℤ p c)
+score-fits : (c : Turn) → SFits w64 (scored c)
 score-fits c = sized _ (omega (arith, next-at c .score-size, next-at c .within, entry c .pre .pairs))
 
-true-fits : (c : Turn) → SFits w64 (toZ w64 (c .before .before .before .before .before .before .before .loop .true-sum) +ℤ t c)
+true-fits : (c : Turn) → SFits w64 (summed c)
 true-fits c = sized _ (omega (arith, next-at c .true-size, next-at c .within, entry c .pre .pairs))
 
-residue-fits : (c : Turn) → SFits w64 (t c -ℤ p c)
-residue-fits c = sized _ (omega (arith, pair-at c .residue-size))
+residue-fits : (c : Turn) → SFits w64 (residue (D c) (w c) (x c))
+residue-fits c = sized _ (omega (arith, small c .residue-size))
 
-loop-holds : tie.Need-loop-holds Inv-loop μ-loop
-loop-holds c = start _ _ _ _
+place : (c : Turn) → i c < length (c .before .before .before .loop .residues)
+place c = omega (arith, next-at c .within, c .before .before .before .loop .inv .same, entry c .pre .places)
 
-add-score : tie.Need-add-score Inv-loop μ-loop
-add-score c = simp (p-back c, t-back c) (score-fits c)
+-- whether the pair has a zero
+test : (c : tie.After-has-zero Inv-loop μ-loop) → c .has-zero .result ≡ eqb (nonzero (w (c .before)) (x (c .before))) 0
+test c = simp (toZ-ofZ (w-fits (c .before)), toZ-ofZ (x-fits (c .before))) at (c .has-zero .ensures)
 
-add-true-sum : tie.Need-add-true-sum Inv-loop μ-loop
-add-true-sum c = simp (p-back c, t-back c) (true-fits c)
-
-add-magnitude-sum : tie.Need-add-magnitude-sum Inv-loop μ-loop
-add-magnitude-sum c = omega (arith, next-at c .magnitude-size, next-at c .within, entry c .pre .pairs)
-
-add-nonzero-pairs : tie.Need-add-nonzero-pairs Inv-loop μ-loop
-add-nonzero-pairs c = omega (arith, next-at c .pairs-size, next-at c .within, entry c .pre .pairs)
-
-sub-write : tie.Need-sub-write Inv-loop μ-loop
-sub-write c = simp (p-back (c .before), t-back (c .before)) (residue-fits (c .before))
+-- it has: nothing is added, and its residue is 0
+zero-at : (c : tie.Then1 Inv-loop μ-loop) → nonzero (w (c .before .before)) (x (c .before .before)) ≡ 0
+zero-at c = eqb-true _ 0 (sym (test (c .before)) ∙ c .if1 .taken)
 
 write-requires : tie.Need-write-requires Inv-loop μ-loop
-write-requires c κs =
-    let turn = c .before in
-    omega (arith, next-at turn .within, turn .before .before .before .before .before .before .before .loop .inv .same, entry turn .pre .places)
+write-requires c κs = place (c .before .before .before)
 
 loop-again : tie.Need-loop-again Inv-loop μ-loop
 loop-again c =
-    let turn = c .before .before .before in
-    simp (c .before .write .ensures, p-back turn, t-back turn, toZ-ofZ (score-fits turn), toZ-ofZ (true-fits turn), toZ-ofZ (residue-fits turn)) (next-at turn)
+    let turn = c .before .before .before .before .before in
+    let loop = turn .before .before .before .loop in
+    let none = zero-pair (D turn) (w turn) (x turn) (zero-at (c .before .before .before)) in
+    equally (c .before .write .ensures ∙ ap (λ (z : ℤ). set (loop .residues) (i turn) z) (sym (none .residue-is)))
+    (nothing (toZ w64 (loop .score)) (none .product-is)) (nothing (toZ w64 (loop .true-sum)) (none .truth-is))
+    (sym (ap (λ (z : ℤ). loop .magnitude-sum + natAbs z) (none .truth-is) ∙ add-zero _))
+    (sym (ap (λ (k : ℕ). loop .nonzero-pairs + k) (zero-at (c .before .before .before)) ∙ add-zero _)) (next-at turn)
+  where
+    nothing : {p : ℤ} (sum : ℤ) → p ≡ pos 0 → sum ≡ sum +ℤ p
+    nothing sum e = sym (ap (λ (z : ℤ). sum +ℤ z) e ∙ +ℤ-idr sum)
+
+-- it has none: what the code computes of it is what the report adds
+abbrev Full : Type 0
+Full = tie.After-product-of-sizes Inv-loop μ-loop
+
+abbrev turn-of : Full → Turn
+turn-of c = c .before .before .before .before
+
+abbrev P : Full → ℤ
+P c = pos (product (D (turn-of c)) (natAbs (w (turn-of c))) (natAbs (x (turn-of c))))
+
+-- a machine number, read back from its bits
+abbrev back : ℤ → ℤ
+back z = toZ w64 (ofZ w64 z)
+
+full-at : (c : Full) → nonzero (w (turn-of c)) (x (turn-of c)) ≡ 0 → ⊥
+full-at c = eqb-false _ 0 (sym (test (c .before .before .before)) ∙ c .before .before .if1 .left)
+
+truth-is : (c : Full) → c .before .true-product .result ≡ w (turn-of c) *ℤ x (turn-of c)
+truth-is c = simp (toZ-ofZ (w-fits (turn-of c)), toZ-ofZ (x-fits (turn-of c))) at (c .before .true-product .ensures)
+
+truth-back : (c : Full) → back (c .before .true-product .result) ≡ w (turn-of c) *ℤ x (turn-of c)
+truth-back c = read-back _ (c .before .true-product .ok) ∙ truth-is c
+
+sign-is : (c : Full) {b : Bool} → ltZ (back (c .before .true-product .result)) (pos 0) ≡ b → negative (w (turn-of c) *ℤ x (turn-of c)) ≡ b
+sign-is c e = sym (ap negative (truth-is c)) ∙ tested (c .before .true-product .result) (record { sfits = c .before .true-product .ok }) e
+
+product-back : (c : Full) → back (c .product-of-sizes .result) ≡ P c
+product-back c =
+    read-back _ (c .product-of-sizes .ok)
+    ∙ (simp (toZ-ofZ (w-fits (turn-of c)), toZ-ofZ (x-fits (turn-of c)), entry (turn-of c) .pre .serves) at (c .product-of-sizes .ensures))
+
+product-of-sizes-requires : tie.Need-product-of-sizes-requires Inv-loop μ-loop
+product-of-sizes-requires c κs = c .before .before .before .before .before .before .before .pre .known
+
+add-true-sum : tie.Need-add-true-sum Inv-loop μ-loop
+add-true-sum c = rw (truth-back c) (true-fits (turn-of c))
+
+add-nonzero-pairs : tie.Need-add-nonzero-pairs Inv-loop μ-loop
+add-nonzero-pairs c =
+    let turn = turn-of c in
+    omega (arith, next-at turn .pairs-size, next-at turn .within, entry turn .pre .pairs, counted (D turn) (w turn) (x turn) (full-at c))
+
+sum-fits : (c : Full) (m : ℕ) → m ≡ natAbs (back (c .before .true-product .result)) → turn-of c .before .before .before .loop .magnitude-sum + m < 2 ^ 64
+sum-fits c m e =
+    let turn = turn-of c in
+    omega (arith, next-at turn .magnitude-size, next-at turn .within, entry turn .pre .pairs, e, ap natAbs (truth-back c))
+
+on : (c : Full) {after : List ℤ} {score residue' : ℤ} {m : ℕ}
+    → after ≡ set (turn-of c .before .before .before .loop .residues) (i (turn-of c)) (back residue') → residue' ≡ residue (D (turn-of c)) (w (turn-of c)) (x (turn-of c))
+    → score ≡ scored (turn-of c) → m ≡ natAbs (back (c .before .true-product .result))
+    → SoFar (D (turn-of c)) (entry (turn-of c) .args .weights .now) (entry (turn-of c) .args .frame .now) (entry (turn-of c) .args .residues .now)
+    after (i (turn-of c) + 1) (back score) (back (toZ w64 (turn-of c .before .before .before .loop .true-sum) +ℤ back (c .before .true-product .result)))
+    (turn-of c .before .before .before .loop .magnitude-sum + m) (turn-of c .before .before .before .loop .nonzero-pairs + 1)
+on c ea er es em =
+    let turn = turn-of c in
+    let loop = turn .before .before .before .loop in
+    equally (ea ∙ ap (λ (z : ℤ). set (loop .residues) (i turn) (back z)) er ∙ ap (λ (z : ℤ). set (loop .residues) (i turn) z) (toZ-ofZ (residue-fits turn)))
+    (ap back es ∙ toZ-ofZ (score-fits turn)) (ap (λ (z : ℤ). back (toZ w64 (loop .true-sum) +ℤ z)) (truth-back c) ∙ toZ-ofZ (true-fits turn))
+    (ap (λ (k : ℕ). loop .magnitude-sum + k) (em ∙ ap natAbs (truth-back c)))
+    (ap (λ (k : ℕ). loop .nonzero-pairs + k) (sym (counted (D turn) (w turn) (x turn) (full-at c)))) (next-at turn)
+
+-- a true product below 0: the design's is taken off the score
+minus-at : (c : tie.Then2 Inv-loop μ-loop) → signedProduct (D (turn-of (c .before))) (w (turn-of (c .before))) (x (turn-of (c .before))) ≡ negℤ (P (c .before))
+minus-at c = minus-product _ _ _ (full-at (c .before)) (sign-is (c .before) (c .if2 .taken))
+
+less-score : (c : tie.Then2 Inv-loop μ-loop) → toZ w64 (turn-of (c .before) .before .before .before .loop .score) -ℤ back (c .before .product-of-sizes .result) ≡ scored (turn-of (c .before))
+less-score c =
+    let score = toZ w64 (turn-of (c .before) .before .before .before .loop .score) in
+    ap (λ (z : ℤ). score -ℤ z) (product-back (c .before)) ∙ ap (λ (z : ℤ). score +ℤ z) (sym (minus-at c))
+
+more-residue : (c : tie.Then2 Inv-loop μ-loop) → back (c .before .before .true-product .result) +ℤ back (c .before .product-of-sizes .result) ≡ residue (D (turn-of (c .before))) (w (turn-of (c .before))) (x (turn-of (c .before)))
+unfolding residue
+more-residue c =
+    let truth = w (turn-of (c .before)) *ℤ x (turn-of (c .before)) in
+    ap₂ _+ℤ_ (truth-back (c .before)) (sym (negℤ-negℤ _ ∙ sym (product-back (c .before)))) ∙ ap (λ (z : ℤ). truth -ℤ z) (sym (minus-at c))
+
+sub-score : tie.Need-sub-score Inv-loop μ-loop
+sub-score c = rw (less-score c) (score-fits (turn-of (c .before)))
+
+add-magnitude-sum : tie.Need-add-magnitude-sum Inv-loop μ-loop
+add-magnitude-sum c = record { fits = sum-fits (c .before .before) (c .magnitude .result) (c .magnitude .ensures) }
+
+add-write : tie.Need-add-write Inv-loop μ-loop
+add-write c = rw (more-residue (c .before .before)) (residue-fits (turn-of (c .before .before .before)))
+
+write-requires-2 : tie.Need-write-requires-2 Inv-loop μ-loop
+write-requires-2 c κs = place (turn-of (c .before .before .before))
+
+loop-again-2 : tie.Need-loop-again-2 Inv-loop μ-loop
+loop-again-2 c =
+    let minus = c .before .before .before .before in
+    on (minus .before) (c .before .write2 .ensures) (more-residue minus) (less-score minus) (c .before .before .before .magnitude .ensures)
+
+-- a true product above 0: the design's is added to it
+plus-at : (c : tie.Else2 Inv-loop μ-loop) → signedProduct (D (turn-of (c .before))) (w (turn-of (c .before))) (x (turn-of (c .before))) ≡ P (c .before)
+plus-at c = plus-product _ _ _ (full-at (c .before)) (sign-is (c .before) (c .if2 .left))
+
+more-score : (c : tie.Else2 Inv-loop μ-loop) → toZ w64 (turn-of (c .before) .before .before .before .loop .score) +ℤ back (c .before .product-of-sizes .result) ≡ scored (turn-of (c .before))
+more-score c = ap (λ (z : ℤ). toZ w64 (turn-of (c .before) .before .before .before .loop .score) +ℤ z) (product-back (c .before) ∙ sym (plus-at c))
+
+less-residue : (c : tie.Else2 Inv-loop μ-loop) → back (c .before .before .true-product .result) -ℤ back (c .before .product-of-sizes .result) ≡ residue (D (turn-of (c .before))) (w (turn-of (c .before))) (x (turn-of (c .before)))
+unfolding residue
+less-residue c = ap₂ _-ℤ_ (truth-back (c .before)) (product-back (c .before) ∙ sym (plus-at c))
+
+add-score : tie.Need-add-score Inv-loop μ-loop
+add-score c = rw (more-score c) (score-fits (turn-of (c .before)))
+
+add-magnitude-sum-2 : tie.Need-add-magnitude-sum-2 Inv-loop μ-loop
+add-magnitude-sum-2 c = record { fits = sum-fits (c .before .before) (c .magnitude2 .result) (c .magnitude2 .ensures) }
+
+sub-write : tie.Need-sub-write Inv-loop μ-loop
+sub-write c = rw (less-residue (c .before .before)) (residue-fits (turn-of (c .before .before .before)))
+
+write-requires-3 : tie.Need-write-requires-3 Inv-loop μ-loop
+write-requires-3 c κs = place (turn-of (c .before .before .before))
+
+loop-again-3 : tie.Need-loop-again-3 Inv-loop μ-loop
+loop-again-3 c =
+    let plus = c .before .before .before .before in
+    on (plus .before) (c .before .write3 .ensures) (less-residue plus) (more-score plus) (c .before .before .before .magnitude2 .ensures)
 
 -- when every pair has been scored
 error-fits : (c : tie.After-loop Inv-loop μ-loop) → SFits w64 (toZ w64 (c .before .loop .true-sum) -ℤ toZ w64 (c .before .loop .score))
 error-fits c = sized _ (omega (arith, c .before .loop .inv .error-size, c .before .loop .inv .within, c .before .before .pre .pairs))
 
-sub-t26 : tie.Need-sub-t26 Inv-loop μ-loop
-sub-t26 c = error-fits c
+sub-t36 : tie.Need-sub-t36 Inv-loop μ-loop
+sub-t36 c = error-fits c
 
 same-length : tie.Need-same-length Inv-loop μ-loop
 same-length c = c .before .loop .inv .same
@@ -156,19 +271,29 @@ accumulate-spec =
     (λ c. search needs)
     (λ c. search needs)
     (λ c. search needs)
+    (λ c. search needs)
     (λ c κs. search needs)
-    (λ c κs. search needs)
-    (λ c κs. search needs)
-    (λ c κs. search needs)
-    add-score
-    add-true-sum
-    add-magnitude-sum
-    add-nonzero-pairs
-    sub-write
     write-requires
     (λ c. search needs)
-    (λ c. search needs)
     loop-again
-    sub-t26
+    (λ c κs. search needs)
+    product-of-sizes-requires
+    add-true-sum
+    add-nonzero-pairs
+    sub-score
+    (λ c κs. search needs)
+    add-magnitude-sum
+    add-write
+    write-requires-2
+    (λ c. search needs)
+    loop-again-2
+    add-score
+    (λ c κs. search needs)
+    add-magnitude-sum-2
+    sub-write
+    write-requires-3
+    (λ c. search needs)
+    loop-again-3
+    sub-t36
     same-length
     returns)

@@ -1,11 +1,12 @@
-//! The third demand: what holds of the report of every row that is scored. Nine times the error's size is at most T in designs 1 and
-//! 2; 4^s times it is at most T in design 3; 9 × 2^t times it is at most (2^t + 18) × T + 9 × 2^t × n in design 4.
+//! The third demand: what holds of the report of every row that is scored. Document 01 only names it; the bounds are those of
+//! docs/TRACE.md. Nine times the error's size is at most T in designs 1 and 2; 4^s times it is at most T in design 3; 9 × 2^t
+//! times it is at most (2^t + 18) × T + 9 × 2^t × n in design 4.
 
 use super::designs::{parts, power};
 use super::rows::Report;
 
-/// Whether the error is within the design's bound, which designs 1 and 2 meet exactly when `meets` says so, and all sums are below
-/// 2^43 in size.
+/// Whether the error is within the design's bound, which designs 1 and 2 meet exactly when `meets` says so, and all sums are
+/// below 2^43 in size.
 pub fn holds((design, setting): (u32, u32), weights: &[i16], frame: &[i16], report: &Report) -> bool {
     let error = report.error.abs();
     let (magnitude_sum, pairs) = (report.magnitude_sum, report.nonzero_pairs);

@@ -1,0 +1,122 @@
+"""Builds the programs of this folder with an archive, and takes figures from them: instructions, code bytes and stack bytes."""
+import re
+import subprocess
+import tempfile
+from pathlib import Path
+
+HERE = Path(__file__).resolve().parent
+INCLUDE = HERE.parent / 'include'
+OURS = 'highvane_score_row'
+# The rows written by hand are compiled for baseline x86-64, as the archive is: no instruction that it may not use too. Some gcc
+# put landing marks for indirect branches at the start of each function by themselves; the archive has none, so the rows get none.
+C = ['gcc', '-std=gnu11', '-Wall', '-Wextra', '-fcf-protection=none', f'-I{INCLUDE}', f'-I{HERE}']
+RUST = ['rustc', '-O', '--edition=2021', '--crate-type=lib', '--emit=obj', '-Cpanic=abort', '-Ccodegen-units=1',
+        '--check-cfg=cfg(one_loop)']
+C_ROWS = {
+    'c_each': ['-O3'],
+    'c_each_masked': ['-O3', '-DMASKED_SIGNS'],
+    'c_one': ['-O3', '-DONE_LOOP'],
+    'c_one_masked': ['-O3', '-DONE_LOOP', '-DMASKED_SIGNS'],
+    'c_each_small': ['-Os'],
+    'c_one_small': ['-Os', '-DONE_LOOP'],
+}
+RUST_ROWS = {'rust_each': [], 'rust_one_loop': ['--cfg=one_loop']}
+ROWS = [OURS, *C_ROWS, *RUST_ROWS]
+
+
+def output(command, **options):
+    """What a command prints. A failure ends the run with what the command said."""
+    try:
+        done = subprocess.run([str(word) for word in command], capture_output=True, text=True, **options)
+    except FileNotFoundError:
+        raise SystemExit(f'benchmarks: {command[0]} is needed and was not found') from None
+    if done.returncode:
+        raise SystemExit(f'benchmarks: {Path(command[0]).name} failed\n{done.stdout}{done.stderr}')
+    return done.stdout
+
+
+def build(archive, folder):
+    """Compiles the rows written by hand and the three programs into `folder`."""
+    objects = []
+    for name, flags in C_ROWS.items():
+        objects.append(folder / f'{name}.o')
+        output([*C, *flags, f'-DSCORE_ROW={name}', '-c', HERE / 'row.c', '-o', objects[-1]])
+    for name, flags in RUST_ROWS.items():
+        objects.append(folder / f'{name}.o')
+        output([*RUST, *flags, HERE / 'row.rs', '-o', objects[-1]])
+    names = ' '.join(f'X({name})' for name in ROWS)
+    output([*C, '-O2', f'-DIMPLEMENTATIONS={names}', HERE / 'rows.c', *objects, archive, '-o', folder / 'rows'])
+    for program in ('operations', 'stack'):
+        output([*C, '-O2', HERE / f'{program}.c', archive, '-o', folder / program])
+
+
+def counts(program, functions, lines):
+    """For each line, what the calls that it asks of a program take, as callgrind counts them inside the functions named, with all
+    that they call, none of which may be another of them: the instructions, and the conditional branches that its simulated
+    processor predicts wrongly. Also what the program prints."""
+    with tempfile.TemporaryDirectory() as dumps:
+        toggles = [f'--toggle-collect={name}' for name in functions]
+        valgrind = ['valgrind', '-q', '--tool=callgrind', '--branch-sim=yes', f'--callgrind-out-file={dumps}/dump']
+        printed = output([*valgrind, *toggles, program], input=''.join(f'{line}\n' for line in lines))
+        found = {}
+        for dump in Path(dumps).iterdir():
+            text = dump.read_text()
+            name = re.search(r'^desc: Trigger: Client Request: (.*)$', text, re.M)
+            events, totals = (re.search(rf'^{word}: (.*)$', text, re.M) for word in ('events', 'totals'))
+            if name and events and totals:
+                of = dict(zip(events[1].split(), map(int, totals[1].split())))
+                found[name[1]] = of.get('Ir', 0), of.get('Bcm', 0)
+    missing = [line for line in lines if not found.get(line, (0, 0))[0]]
+    if missing:
+        raise SystemExit(f'benchmarks: callgrind counted nothing for: {missing[0]}')
+    return found, printed
+
+
+class Code:
+    """The functions of a linked program, with what each calls."""
+
+    def __init__(self, program):
+        self.functions = {}
+        for line in output(['nm', '--print-size', '--defined-only', '--demangle', program]).splitlines():
+            symbol = re.match(r'([0-9a-f]+) ([0-9a-f]+) [Tt] (.+)$', line)
+            if symbol:
+                self.functions[int(symbol[1], 16)] = (int(symbol[2], 16), symbol[3])
+        constants = re.search(r'\.rodata +([0-9a-f]+) +([0-9a-f]+)', output(['objdump', '-h', program]))
+        first = int(constants[2], 16)
+        self.constants = range(first, first + int(constants[1], 16))
+        self.text = {}
+        for line in output(['objdump', '-d', '--no-show-raw-insn', program]).splitlines():
+            instruction = re.match(r' +([0-9a-f]+):\t(.*)', line)
+            if instruction:
+                self.text[int(instruction[1], 16)] = instruction[2]
+
+    def reached(self, name):
+        """The addresses of a function and of all functions that it calls or jumps to, itself first."""
+        waiting = [address for address, (_, symbol) in self.functions.items() if symbol == name]
+        found = []
+        while waiting:
+            start = waiting.pop(0)
+            if start in found:
+                continue
+            found.append(start)
+            for text in self.instructions(start):
+                target = re.match(r'(?:call|j\w+) +([0-9a-f]+) <', text)
+                if target:
+                    waiting += [other for other, (size, _) in self.functions.items()
+                                if other != start and other <= int(target[1], 16) < other + size]
+                elif re.match(r'call +\*', text):
+                    raise SystemExit(f'benchmarks: {name} calls through a register or memory, which cannot be followed: {text}')
+        return found
+
+    def instructions(self, start):
+        size, _ = self.functions[start]
+        return [self.text[at] for at in range(start, start + size) if at in self.text]
+
+    def sizes(self, name):
+        """For a function and each that it calls: its name, its bytes, and how often it reads a constant."""
+        rows = []
+        for start in self.reached(name):
+            size, symbol = self.functions[start]
+            targets = [int(at, 16) for text in self.instructions(start) for at in re.findall(r'# ([0-9a-f]+)', text)]
+            rows.append((symbol, size, sum(at in self.constants for at in targets)))
+        return rows

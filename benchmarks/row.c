@@ -1,0 +1,153 @@
+/*
+ * A row scored by hand in C: the same signature, meaning and refusals as highvane_score_row, written for gcc -O3 at baseline
+ * x86-64. The design products shift and add, as the chip does; only the true product multiplies. At width 16 every product is
+ * below 2^31, so the products need 32 bits and the sums 64.
+ *
+ * Two choices are open, and run.py measures all four, so that none of them is picked for the comparison:
+ *   ONE_LOOP      one loop that asks for the design at each pair; otherwise a loop for each design, faster and larger
+ *   MASKED_SIGNS  signs by masks; otherwise by a branch, which is fewer instructions and is predicted wrongly where signs vary
+ *
+ * The rest is what gave the fewest instructions at gcc -O3. These were measured and gave more, for a pair where each design has
+ * its loop: Mitchell with its leading ones cleared and its sum compared (1 to 11 more); the nearest power by a bit or a condition
+ * (2 to 8); the stages with their leading ones cleared by `&` or `^` (2 to 3 a stage); the truncated product scaled down by 2^t
+ * and up again (7 to 8); counting the pairs without a 0 and not those with one (1 to 2). A branch on the carry of the fractions
+ * gave 1 less, and at every other pair one more branch that is predicted wrongly.
+ */
+#include <stdlib.h>
+
+#include "highvane.h"
+
+#ifndef SCORE_ROW
+#define SCORE_ROW c_score_row
+#endif
+
+static const uint32_t TOP = 0x80000000;
+
+static inline uint32_t leading_zeros(uint32_t x) {
+    return (uint32_t)__builtin_clz(x);
+}
+
+/* The product of two numbers with `zeros` leading zeros together, whose fractions, below bit 31, have the sum `sum`. */
+static inline uint32_t power_of(uint32_t sum, uint32_t zeros) {
+    if (sum >> 31) zeros--; /* the fractions carry into the exponent; gcc makes no branch of this */
+    return (sum | TOP) >> (zeros - 31);
+}
+
+static inline uint32_t mitchell(uint32_t a, uint32_t b) {
+    uint32_t k = leading_zeros(a), m = leading_zeros(b);
+    /* both leading ones stand at bit 31 and cancel modulo 2^32 */
+    return power_of((a << k) + (b << m), k + m);
+}
+
+/* gcc makes one bsr of this, and not of 31 - clz */
+static inline uint32_t log2_floor(uint32_t x) {
+    return 31 ^ leading_zeros(x);
+}
+
+static inline uint32_t near_power(uint32_t x) {
+    uint32_t k = log2_floor(x);
+    /* the leading two bits of 2x, 2 or 3 */
+    return k + (2 * x >> k) - 2;
+}
+
+static inline uint32_t nearest(uint32_t a, uint32_t b) {
+    uint32_t k = near_power(a), m = near_power(b);
+    return (a << m) + (b << k) - (1u << (k + m));
+}
+
+static inline uint32_t staged(uint32_t stages, uint32_t a, uint32_t b) {
+    uint32_t sum = 0;
+    do {
+        uint32_t k = log2_floor(a), m = log2_floor(b);
+        sum += a << m;
+        b -= 1u << m;
+        sum += b << k;
+        a -= 1u << k;
+    } while (--stages && a && b);
+    return sum;
+}
+
+static inline uint32_t truncated(uint32_t kept_bits, uint32_t a, uint32_t b) {
+    uint32_t k = leading_zeros(a), m = leading_zeros(b);
+    uint32_t carry = TOP >> kept_bits, kept = -carry;
+    return power_of((a << k & kept) + (b << m & kept) + carry, k + m);
+}
+
+static inline uint32_t product_of(uint32_t design, uint32_t setting, uint32_t a, uint32_t b) {
+    switch (design) {
+    case HIGHVANE_MITCHELL: return mitchell(a, b);
+    case HIGHVANE_NEAREST_POWER: return nearest(a, b);
+    case HIGHVANE_STAGED: return staged(setting, a, b);
+    default: return truncated(setting, a, b);
+    }
+}
+
+static inline uint32_t size_of(int32_t x) {
+#ifdef ONE_LOOP
+    return (uint32_t)abs(x);
+#else
+    /* up to 1 fewer than abs here; in the one loop abs is up to 4 fewer */
+    int32_t sign = x >> 31;
+    return (uint32_t)((x ^ sign) - sign);
+#endif
+}
+
+/* Always inlined, so that a constant design leaves one kernel in the loop. */
+static inline __attribute__((always_inline)) highvane_report accumulate(uint32_t design, uint32_t setting, const int16_t *weights,
+                                                                        const int16_t *frame, size_t pairs, int64_t *residues) {
+    int64_t score = 0, true_sum = 0;
+    uint64_t magnitude_sum = 0, zero_pairs = 0;
+    for (size_t i = 0; i < pairs; i++) {
+        int32_t w = weights[i], x = frame[i], truth = w * x;
+        if (truth == 0) {
+            residues[i] = 0;
+            zero_pairs++;
+            continue;
+        }
+        uint32_t product = product_of(design, setting, size_of(w), size_of(x));
+#ifdef MASKED_SIGNS
+        int64_t sign = truth >> 31, signed_product = (product ^ sign) - sign;
+        score += signed_product;
+        magnitude_sum += (uint64_t)((truth ^ sign) - sign);
+        residues[i] = truth - signed_product;
+        true_sum += truth;
+#else
+        true_sum += truth;
+        if (truth < 0) {
+            score -= product;
+            magnitude_sum -= (uint64_t)truth;
+            residues[i] = (int64_t)truth + product;
+        } else {
+            score += product;
+            magnitude_sum += (uint64_t)truth;
+            residues[i] = (int64_t)truth - product;
+        }
+#endif
+    }
+    return (highvane_report){score, true_sum, true_sum - score, magnitude_sum, pairs - zero_pairs, HIGHVANE_ACCEPTED};
+}
+
+static inline uint32_t refusal_of(uint32_t design, uint32_t setting, size_t weights_len, size_t frame_len, size_t residues_len) {
+    if (design - 1 > 3) return HIGHVANE_UNKNOWN_DESIGN;
+    if (design < HIGHVANE_STAGED ? setting != 0 : setting - 1 > 18 - design) return HIGHVANE_WRONG_SETTING;
+    if (weights_len != frame_len) return HIGHVANE_LENGTHS_DIFFER;
+    if (weights_len > HIGHVANE_PAIRS_MAX) return HIGHVANE_TOO_MANY_PAIRS;
+    if (residues_len < weights_len) return HIGHVANE_TOO_FEW_RESIDUES;
+    return HIGHVANE_ACCEPTED;
+}
+
+highvane_report SCORE_ROW(uint32_t design, uint32_t setting, const int16_t *weights, size_t weights_len, const int16_t *frame,
+                          size_t frame_len, int64_t *residues, size_t residues_len) {
+    uint32_t refusal = refusal_of(design, setting, weights_len, frame_len, residues_len);
+    if (refusal) return (highvane_report){.refusal = refusal};
+#ifdef ONE_LOOP
+    return accumulate(design, setting, weights, frame, weights_len, residues);
+#else
+    switch (design) {
+    case HIGHVANE_MITCHELL: return accumulate(HIGHVANE_MITCHELL, 0, weights, frame, weights_len, residues);
+    case HIGHVANE_NEAREST_POWER: return accumulate(HIGHVANE_NEAREST_POWER, 0, weights, frame, weights_len, residues);
+    case HIGHVANE_STAGED: return accumulate(HIGHVANE_STAGED, setting, weights, frame, weights_len, residues);
+    default: return accumulate(HIGHVANE_TRUNCATED, setting, weights, frame, weights_len, residues);
+    }
+#endif
+}

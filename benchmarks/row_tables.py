@@ -1,0 +1,100 @@
+"""The tables of scored rows, each as its head and its lines, and where there are several, each with its title first."""
+from measure import OURS, ROWS, Code
+
+PAIRS = 4096
+DESIGNS = {(1, 0): '1', (2, 0): '2', (3, 1): '3, s = 1', (3, 2): '3, s = 2', (3, 4): '3, s = 4', (3, 16): '3, s = 16',
+           (4, 6): '4, t = 6', (4, 15): '4, t = 15'}
+DATA = {'uniform': 'Uniform over all 65,536 numbers', 'small': 'Small numbers, some of them 0'}
+MASKED, BRANCHING = ['c_each_masked', 'c_one_masked'], ['c_each', 'c_one']
+COLUMNS = {OURS: 'ours', 'c_each_masked': 'each, masked', 'c_each': 'each', 'c_one_masked': 'one, masked', 'c_one': 'one',
+           'c_each_small': 'Os each', 'c_one_small': 'Os one', 'rust_each': 'Rust each', 'rust_one_loop': 'Rust one'}
+LENGTHS = [1, 64, PAIRS]
+
+
+def number(value):
+    return f'{value:,}' if isinstance(value, int) else f'{value:,.1f}'
+
+
+class Rows:
+    """Figures of scored rows: asked for in a first pass over the tables, counted all in one run, and read in a second."""
+
+    def __init__(self):
+        self.asked, self.found = [], {}
+
+    def both(self, name, data, design, setting, pairs, frame=None, places=None):
+        """Instructions of a whole call, and branches predicted wrongly."""
+        lengths = [pairs if length is None else length for length in (pairs, frame, places)]
+        line = ' '.join(map(str, (name, data, design, setting, *lengths)))
+        if not self.found:
+            self.asked.append(line)
+            return 1, 1
+        return self.found[line]
+
+    def count(self, *call):
+        return self.both(*call)[0]
+
+    def pair(self, name, data, design, setting):
+        return self.count(name, data, design, setting, PAIRS) / PAIRS
+
+
+def pair_tables(rows):
+    tables = []
+    for data, title in DATA.items():
+        body = []
+        for (design, setting), label in DESIGNS.items():
+            figures = {name: rows.pair(name, data, design, setting) for name in ROWS}
+            fewest = [min(figures[name] for name in names) for names in (MASKED, MASKED + BRANCHING)]
+            body.append([label, *(number(figures[name]) for name in COLUMNS), *(f'{figures[OURS] / few:.2f}' for few in fewest)])
+        tables.append((title, ['design', *COLUMNS.values(), 'ours / masked', 'ours / fewest'], body))
+    return tables
+
+
+def wrong_table(rows):
+    body = [[label, *(f'{rows.both(name, "uniform", *key, PAIRS)[1] / PAIRS:.1f}' for name in COLUMNS)]
+            for key, label in DESIGNS.items()]
+    return ['design', *COLUMNS.values()], body
+
+
+def growth_tables(rows):
+    head = ['design', 'empty', *(f'{n:,}' for n in LENGTHS), 'a pair, 1 to 64', 'a pair, 64 to 4,096']
+    tables = []
+    for data, title in (('ones', 'The same pair throughout, 32,767 and −32,767'), ('uniform', DATA['uniform'])):
+        body = []
+        for (design, setting), label in DESIGNS.items():
+            empty, *three = (rows.count(OURS, data, design, setting, n) for n in (0, *LENGTHS))
+            slopes = [(three[i + 1] - three[i]) / (LENGTHS[i + 1] - LENGTHS[i]) for i in range(2)]
+            body.append([label, *(number(n) for n in (empty, *three)), *(f'{slope:.2f}' for slope in slopes)])
+        tables.append((title, head, body))
+    return tables
+
+
+def refusal_table(rows):
+    def counted(design, setting, pairs, frame, places):
+        return number(rows.count(OURS, 'uniform', design, setting, pairs, frame, places))
+    body = [['1', *(counted(5, 0, n, n, n) for n in LENGTHS)], ['3', *(counted(1, 1, n, n, n) for n in LENGTHS)],
+            ['5', *(counted(1, 0, n, n - 1, n) for n in LENGTHS)],
+            ['6', '', '', f'{counted(1, 0, PAIRS + 1, PAIRS + 1, PAIRS + 1)} (4,097 pairs)'],
+            ['7', *(counted(1, 0, n, n, n - 1) for n in LENGTHS)]]
+    return ['refusal', *(f'{n:,}' for n in LENGTHS)], body
+
+
+def stage_table(rows):
+    head = ['s', *(cell for data in ('most stages', 'uniform') for cell in (f'ours, {data}', 'more', f'each, {data}', 'more'))]
+    body, before = [], None
+    for stages in range(1, 17):
+        figures = [rows.pair(name, data, 3, stages) for data in ('ones', 'uniform') for name in (OURS, 'c_each')]
+        more = [f'{b - a:.1f}' for a, b in zip(before, figures)] if before else [''] * 4
+        body.append([str(stages), *(cell for pair in zip(map(number, figures), more) for cell in pair)])
+        before = figures
+    return head, body
+
+
+def code_table(program):
+    code, body, ours = Code(program), [], None
+    for name, title in COLUMNS.items():
+        sizes = code.sizes(name)
+        total = sum(size for _, size, _ in sizes)
+        ours = ours or total
+        parts = ', '.join(f'`{symbol}` {size:,}' for symbol, size, _ in sizes) if len(sizes) > 1 else ''
+        body.append([title, number(total), f'{ours / total:.2f}', str(sum(reads for *_, reads in sizes)), parts])
+    return ['row', 'bytes', 'ours / this', 'reads of constants', 'parts'], body

@@ -1,0 +1,146 @@
+/*
+ * Scores rows with the library and with the rows written by hand. IMPLEMENTATIONS, which run.py gives, is the list of them.
+ *
+ *   rows check   compares all implementations on seeded rows, on boundary numbers and on refusals, and prints how many calls and
+ *                pairs it compared, and how many of 4,096 pairs of small numbers hold a 0
+ *   rows         reads lines "implementation data design setting weights frame places" (the last three are lengths), and for each
+ *                makes one call and has callgrind write the instructions of that call under the line as its name
+ */
+#include <stdio.h>
+#include <stdlib.h>
+#include <valgrind/callgrind.h>
+
+#include "highvane.h"
+#include "seeded.h"
+
+typedef highvane_report score_row(uint32_t design, uint32_t setting, const int16_t *weights, size_t weights_len,
+                                  const int16_t *frame, size_t frame_len, int64_t *residues, size_t residues_len);
+
+#define X(name) extern score_row name;
+IMPLEMENTATIONS
+#undef X
+
+static const struct {
+    const char *name;
+    score_row *call;
+} implementations[] = {
+#define X(name) {#name, name},
+    IMPLEMENTATIONS
+#undef X
+};
+
+enum { COUNT = sizeof implementations / sizeof *implementations, PAIRS = HIGHVANE_PAIRS_MAX };
+
+/* one pair more than a row may have, so that the refusal can be asked for */
+static int16_t weights[PAIRS + 1], frame[PAIRS + 1];
+static int64_t residues[COUNT][PAIRS + 1];
+static unsigned long calls, pairs_compared;
+
+static void fill(const char *data) {
+    if (seeded_row(data, weights, frame, PAIRS + 1)) return;
+    fprintf(stderr, "rows: there are no data called %s\n", data);
+    exit(1);
+}
+
+/* Calls all implementations and stops the program where one gives another report, or other residues, than the first. */
+static void compare(uint32_t design, uint32_t setting, size_t weights_len, size_t frame_len, size_t places) {
+    highvane_report reports[COUNT];
+    for (int i = 0; i < COUNT; i++) {
+        memset(residues[i], 0x5A, sizeof residues[i]);
+        reports[i] = implementations[i].call(design, setting, weights, weights_len, frame, frame_len, residues[i], places);
+        /* a struct is not compared by its bytes, since those between its fields are free */
+        const highvane_report *r = &reports[i], *first = &reports[0];
+        if (r->score != first->score || r->true_sum != first->true_sum || r->error != first->error
+            || r->magnitude_sum != first->magnitude_sum || r->nonzero_pairs != first->nonzero_pairs
+            || r->refusal != first->refusal || memcmp(residues[i], residues[0], sizeof residues[0])) {
+            fprintf(stderr, "rows: %s and %s differ at design %u, setting %u, lengths %zu, %zu, %zu\n", implementations[i].name,
+                    implementations[0].name, design, setting, weights_len, frame_len, places);
+            exit(1);
+        }
+    }
+    calls++;
+    pairs_compared += reports[0].refusal ? 0 : weights_len;
+}
+
+/* Every design with every setting that it takes, and with one setting more at each end. */
+static void compare_settings(size_t pairs) {
+    for (uint32_t design = 0; design <= 5; design++)
+        for (uint32_t setting = 0; setting <= 17; setting++)
+            compare(design, setting, pairs, pairs, pairs);
+}
+
+static void compare_boundaries(void) {
+    int16_t numbers[128];
+    size_t count = 0, pairs = 0;
+    numbers[count++] = INT16_MIN;
+    numbers[count++] = 0;
+    for (int k = 0; k < 15; k++)
+        for (int sign = -1; sign <= 1; sign += 2) {
+            numbers[count++] = (int16_t)(sign * (1 << k));
+            numbers[count++] = (int16_t)(sign * ((1 << k) + 1));
+            numbers[count++] = (int16_t)(sign * ((2 << k) - 1));
+            numbers[count++] = (int16_t)(sign * ((3 << k) / 2));
+        }
+    for (size_t i = 0; i < count; i++)
+        for (size_t j = 0; j < count; j++) {
+            weights[pairs] = numbers[i];
+            frame[pairs++] = numbers[j];
+            if (pairs == PAIRS || (i == count - 1 && j == count - 1)) {
+                compare_settings(pairs);
+                pairs = 0;
+            }
+        }
+}
+
+static void check(void) {
+    static const char *const data[] = {"uniform", "small", "ones"};
+    static const size_t lengths[] = {0, 1, 2, 63, 64, PAIRS};
+    for (size_t d = 0; d < sizeof data / sizeof *data; d++)
+        for (size_t i = 0; i < sizeof lengths / sizeof *lengths; i++) {
+            fill(data[d]);
+            compare_settings(lengths[i]);
+        }
+    compare_boundaries();
+    for (uint32_t design = 1; design <= 4; design++)
+        for (size_t w = PAIRS - 1; w <= PAIRS + 1; w++)
+            for (size_t f = PAIRS - 1; f <= PAIRS + 1; f++)
+                for (size_t p = PAIRS - 1; p <= PAIRS + 1; p++)
+                    compare(design, design < 3 ? 0 : 15, w, f, p);
+    fill("small");
+    unsigned long nonzero = implementations[0].call(1, 0, weights, PAIRS, frame, PAIRS, residues[0], PAIRS).nonzero_pairs;
+    printf("%lu %lu %lu\n", calls, pairs_compared, PAIRS - nonzero);
+}
+
+static void measure(const char *line) {
+    char name[64], data[64];
+    uint32_t design, setting;
+    size_t weights_len, frame_len, places;
+    if (sscanf(line, "%63s %63s %u %u %zu %zu %zu", name, data, &design, &setting, &weights_len, &frame_len, &places) != 7
+        || weights_len > PAIRS + 1 || frame_len > PAIRS + 1 || places > PAIRS + 1) {
+        fprintf(stderr, "rows: not a line that can be measured: %s\n", line);
+        exit(1);
+    }
+    fill(data);
+    for (int i = 0; i < COUNT; i++)
+        if (!strcmp(implementations[i].name, name)) {
+            CALLGRIND_ZERO_STATS;
+            implementations[i].call(design, setting, weights, weights_len, frame, frame_len, residues[i], places);
+            CALLGRIND_DUMP_STATS_AT(line);
+            return;
+        }
+    fprintf(stderr, "rows: no implementation is called %s\n", name);
+    exit(1);
+}
+
+int main(int argc, char **argv) {
+    char line[256];
+    if (argc == 2 && !strcmp(argv[1], "check")) {
+        check();
+        return 0;
+    }
+    while (fgets(line, sizeof line, stdin)) {
+        line[strcspn(line, "\n")] = 0;
+        measure(line);
+    }
+    return 0;
+}

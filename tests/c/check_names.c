@@ -1,0 +1,56 @@
+/* The header's names: each refusal's, against a call that is refused for what the name says; and the limits, which are taken. */
+#include "checks.h"
+
+#include <stdio.h>
+
+static int16_t numbers[HIGHVANE_PAIRS_MAX + 1];
+static int64_t residues[HIGHVANE_PAIRS_MAX + 1];
+static uint8_t input[HIGHVANE_INPUT_MAX + 1], out[HIGHVANE_TRANSCRIPT_MAX];
+
+static void named(uint32_t name, uint32_t given, const char *call) {
+    compare(name == given, "%s gives refusal %" PRIu32 ", and the name stands for %" PRIu32, call, given, name);
+}
+#define NAMED(name, call) named(name, call, #call " (" #name ")")
+
+static uint32_t score(size_t weights_len, size_t frame_len, size_t residues_len) {
+    return highvane_score_row(HIGHVANE_TRUNCATED, 15, numbers, weights_len, numbers, frame_len, residues, residues_len).refusal;
+}
+
+/* The refusal that stands in the first line of a transcript, or 0. */
+static uint32_t in_text(uint8_t kind, size_t input_len) {
+    unsigned refusal = 0;
+    input[0] = kind;
+    out[highvane_transcript(input, input_len, out)] = 0;
+    return sscanf((char *)out, "%*u no %u", &refusal) == 1 ? refusal : 0;
+}
+
+void check_names(void) {
+    NAMED(HIGHVANE_UNKNOWN_DESIGN, highvane_product_unsigned(HIGHVANE_MITCHELL - 1, 8, 0, 1, 1).refusal);
+    NAMED(HIGHVANE_UNKNOWN_DESIGN, highvane_product_unsigned(HIGHVANE_TRUNCATED + 1, 8, 0, 1, 1).refusal);
+    NAMED(HIGHVANE_UNKNOWN_WIDTH, highvane_product_signed(HIGHVANE_MITCHELL, 12, 0, 1, 1).refusal);
+    NAMED(HIGHVANE_WRONG_SETTING, highvane_product_signed(HIGHVANE_NEAREST_POWER, 8, 1, 1, 1).refusal);
+    NAMED(HIGHVANE_WRONG_SETTING, highvane_product_signed(HIGHVANE_STAGED, 8, 9, 1, 1).refusal);
+    NAMED(HIGHVANE_ACCEPTED, highvane_product_signed(HIGHVANE_STAGED, 8, 8, 1, 1).refusal);
+    NAMED(HIGHVANE_WRONG_SETTING, highvane_product_signed(HIGHVANE_TRUNCATED, 8, 8, 1, 1).refusal);
+    NAMED(HIGHVANE_OPERAND_OUTSIDE_WIDTH, highvane_product_unsigned(HIGHVANE_MITCHELL, 8, 0, 256, 1).refusal);
+    NAMED(HIGHVANE_LENGTHS_DIFFER, score(2, 3, 3));
+    NAMED(HIGHVANE_TOO_MANY_PAIRS, score(HIGHVANE_PAIRS_MAX + 1, HIGHVANE_PAIRS_MAX + 1, HIGHVANE_PAIRS_MAX + 1));
+    NAMED(HIGHVANE_ACCEPTED, score(HIGHVANE_PAIRS_MAX, HIGHVANE_PAIRS_MAX, HIGHVANE_PAIRS_MAX));
+    NAMED(HIGHVANE_TOO_FEW_RESIDUES, score(3, 3, 2));
+    NAMED(HIGHVANE_NOT_FINITE, highvane_single_product(0x7F800000, 0).refusal);
+    NAMED(HIGHVANE_SUBNORMAL, highvane_single_product(1, 0).refusal);
+    NAMED(HIGHVANE_EXPONENT_TOO_LARGE, highvane_single_product(0x7F000000, 0x7F000000).refusal);
+    NAMED(HIGHVANE_EXPONENT_TOO_SMALL, highvane_single_product(0x00800000, 0x00800000).refusal);
+    NAMED(HIGHVANE_WRONG_COLUMNS, highvane_row_refusal(numbers, 6, HIGHVANE_PAIRS_MAX + 1, 0));
+    NAMED(HIGHVANE_ACCEPTED, highvane_row_refusal(numbers, HIGHVANE_PAIRS_MAX, HIGHVANE_PAIRS_MAX, 0));
+    NAMED(HIGHVANE_BROKEN_STORE, highvane_row_refusal(numbers, 6, 4, 0));
+    NAMED(HIGHVANE_NO_SUCH_ROW, highvane_row_refusal(numbers, 6, 3, 2));
+    NAMED(HIGHVANE_SHIFT_TOO_LARGE, highvane_scale(0, 0, HIGHVANE_SHIFT_MAX + 1).refusal);
+    NAMED(HIGHVANE_ACCEPTED, highvane_scale(0, 0, HIGHVANE_SHIFT_MAX).refusal);
+    NAMED(HIGHVANE_SIZE_TOO_LARGE, highvane_scale(INT64_MIN, 0, 0).refusal);
+    NAMED(HIGHVANE_UNKNOWN_KIND, in_text(4, 1));
+    NAMED(HIGHVANE_RECORD_CUT_SHORT, in_text(3, 2));
+    NAMED(HIGHVANE_INPUT_TOO_LONG, in_text(3, HIGHVANE_INPUT_MAX + 1));
+    NAMED(HIGHVANE_ACCEPTED, in_text(3, HIGHVANE_INPUT_MAX));
+    part("names and limits of the header");
+}
