@@ -1,6 +1,6 @@
 // Powers of two, shifts that lose nothing, and the floor of the logarithm.
 ghost use mathlib.Core.Path.{_≡_};
-ghost use Prim.Native.Nat.{_*_, _^_, _≤_, _<_};
+ghost use Prim.Native.Nat.{_+_, _*_, _^_, _≤_, _<_};
 ghost use Rattle.designs.specs.Designs.{log2, rest};
 ghost use Rattle.kernels.specs.Steps.{Log2};
 
@@ -23,6 +23,14 @@ pub(crate) fn log2_floor(x: u32) -> u32
     ensures { λ r. ⌜ Log2 x r ⌝ }
 {
     31 - u32::leading_zeros(x)
+}
+
+// How far x can be moved up in 32 bits.
+pub(crate) fn headroom(x: u32) -> u32
+    requires { ⌜ 0 < x ⌝ }
+    ensures { λ r. ⌜ r + log2 x ≡ 31 ⌝ }
+{
+    u32::leading_zeros(x)
 }
 
 // x without its leading power of two.

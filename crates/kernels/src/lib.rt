@@ -1,14 +1,15 @@
 // The four designs on magnitudes of up to 32 bits, whatever the width of the operands they come from. Every input is taken, so
 // nothing is refused here. The kernels shift and add; none multiplies.
 ghost use mathlib.Core.Path.{_≡_};
-ghost use Prim.Native.Nat.{min, _-_, _*_, _/_, _^_, _≤_, _<_};
-ghost use Rattle.designs.specs.Designs.{product, mitchell, nearest, staged, truncated};
+ghost use Prim.Native.Nat.{min, _+_, _-_, _*_, _^_, _≤_, _<_};
+ghost use Rattle.designs.specs.Designs.{log2, kept, product, mitchell, nearest, staged, truncated};
 ghost use Rattle.designs.specs.Products.{designOf};
 ghost use Rattle.designs.proofs.Fold.{fold};
 ghost use Rattle.kernels.specs.Steps.{served, NearPower};
 
 mod bits;
 
+use crate::bits::headroom;
 use crate::bits::log2_floor;
 use crate::bits::power;
 use crate::bits::rest_of;
@@ -106,13 +107,21 @@ pub fn truncated(kept_bits: u32, a: u32, b: u32) -> u64
         return 0;
     }
     let t = at_most_31(kept_bits);
-    let k = log2_floor(a);
-    let m = log2_floor(b);
-    let one = power(t);
-    // each operand over its power is one and its kept fraction; the sum wants one of the two ones, and the carry of 1
-    let sum = (shifted(a, t) >> k) + (shifted(b, t) >> m) + 1 - one;
-    // folded at 2^62, from where one shift down leads to every power of the product
-    folded(power(62), sum << (62 - t)) >> (62 - (k + m))
+    let k = headroom(a);
+    let m = headroom(b);
+    let one = power(31);
+    // each operand is one and its kept fraction; the sum wants one of the two ones, and the carry of 1, which counts kept bits
+    let sum = kept_of(a, k, t) + kept_of(b, m, t) + power(31 - t) - one;
+    // 2^31 × 2^31 over the power of the product is 2^(k+m)
+    (folded(one, sum) << 31) >> (k + m)
+}
+
+// x moved up by its headroom, its leading bit then at 2^31, with its t kept bits and nothing below them.
+fn kept_of(x: u32, k: u32, t: u32) -> u64
+    requires { ⌜ (0 < x) × (k + log2 x ≡ 31) × (t ≤ 31) ⌝ }
+    ensures { λ r. ⌜ r ≡ (2 ^ t + kept t x) * 2 ^ (31 - t) ⌝ }
+{
+    shifted(x, k) & !(power(31 - t) - 1)
 }
 
 fn at_most_31(t: u32) -> u32

@@ -5,7 +5,8 @@ ghost use lib.ListN.{length, set};
 ghost use Rattle.rows.specs.Answers.{Ready, Summed};
 use crate::RowReport;
 
-// Goes over the pairs once. Each place of `residues` is written when its pair is scored.
+// Goes over the pairs once. Each place of `residues` is written when its pair is scored. The pairs with a zero are counted, since they
+// are few.
 pub(crate) fn accumulate(
     design: u32,
     setting: u32,
@@ -19,7 +20,7 @@ pub(crate) fn accumulate(
     let mut score: i64 = 0;
     let mut true_sum: i64 = 0;
     let mut magnitude_sum: u64 = 0;
-    let mut nonzero_pairs: u64 = 0;
+    let mut zeros: u64 = 0;
     let mut i = 0;
     while i < weights.len() {
         let w = weights[i];
@@ -27,12 +28,12 @@ pub(crate) fn accumulate(
         let at = i;
         i += 1;
         if crate::pairs::has_zero(w, x) {
+            zeros += 1;
             write(residues, at, 0);
         } else {
             let truth = crate::pairs::true_product(w, x);
             let product = crate::pairs::product_of_sizes(design, setting, w, x);
             true_sum += truth;
-            nonzero_pairs += 1;
             // both products have the sign of the true one
             if truth < 0 {
                 score -= product;
@@ -50,7 +51,7 @@ pub(crate) fn accumulate(
         true_sum,
         error: true_sum - score,
         magnitude_sum,
-        nonzero_pairs,
+        nonzero_pairs: weights.len() as u64 - zeros,
     }
 }
 

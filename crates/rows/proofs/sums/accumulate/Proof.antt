@@ -2,7 +2,7 @@
 -- 2^31 − 1 each stay below 2^43. Assumes nothing.
 use borrow.Author.Needs.{needs}
 use borrow.Author.Tests.{eqb-true, eqb-false}
-use mathlib.Core.Path.{_≡_, sym, ap, ap₂, _∙_}
+use mathlib.Core.Path.{_≡_, refl, sym, ap, ap₂, _∙_}
 use mathlib.Core.Bool.{Bool}
 use mathlib.Core.List.{List}
 use Prim.Native.Nat.{ℕ, _+_, _-_, _^_, _≤_, _<_}
@@ -26,15 +26,15 @@ use Rattle.rows.proofs.sums.accumulate.Statement.{statement}
 use Rattle.rows.proofs.sums.accumulate.Tie as tie
 
 abbrev Inv-loop : tie.InvT-loop
-Inv-loop design setting weights frame residues₀ score₀ true-sum₀ magnitude-sum₀ nonzero-pairs₀ i₀ residues score true-sum magnitude-sum nonzero-pairs i =
-    SoFar (designOf design setting) weights frame residues₀ residues i (toZ w64 score) (toZ w64 true-sum) magnitude-sum nonzero-pairs
+Inv-loop design setting weights frame residues₀ score₀ true-sum₀ magnitude-sum₀ zeros₀ i₀ residues score true-sum magnitude-sum zeros i =
+    (zeros ≤ i) × SoFar (designOf design setting) weights frame residues₀ residues i (toZ w64 score) (toZ w64 true-sum) magnitude-sum (i - zeros)
 
 abbrev μ-loop : tie.MeasureT-loop
-μ-loop design setting weights frame residues₀ score₀ true-sum₀ magnitude-sum₀ nonzero-pairs₀ i₀ residues score true-sum magnitude-sum nonzero-pairs i =
+μ-loop design setting weights frame residues₀ score₀ true-sum₀ magnitude-sum₀ zeros₀ i₀ residues score true-sum magnitude-sum zeros i =
     length weights - i
 
 loop-holds : tie.Need-loop-holds Inv-loop μ-loop
-loop-holds c = start _ _ _ _
+loop-holds c = (omega arith, start _ _ _ _)
 
 -- one turn, when its pair has been read
 abbrev Turn : Type 0
@@ -73,8 +73,8 @@ small c = bounds (D c) (w c) (x c) (entry c .pre .keeps) (w-fits c) (x-fits c)
 next-at : (c : Turn)
     → SoFar (D c) (entry c .args .weights .now) (entry c .args .frame .now) (entry c .args .residues .now)
     (set (c .before .before .before .loop .residues) (i c) (residue (D c) (w c) (x c))) (i c + 1) (scored c) (summed c)
-    (c .before .before .before .loop .magnitude-sum + natAbs (w c *ℤ x c)) (c .before .before .before .loop .nonzero-pairs + nonzero (w c) (x c))
-next-at c = next (D c) _ _ _ _ (i c) _ _ _ _ (omega arith) (entry c .pre .lengths) (entry c .pre .places) (c .before .before .before .loop .inv) (small c)
+    (c .before .before .before .loop .magnitude-sum + natAbs (w c *ℤ x c)) (i c - c .before .before .before .loop .zeros + nonzero (w c) (x c))
+next-at c = next (D c) _ _ _ _ (i c) _ _ _ _ (omega arith) (entry c .pre .lengths) (entry c .pre .places) (c .before .before .before .loop .inv .1) (small c)
 
 score-fits : (c : Turn) → SFits w64 (scored c)
 score-fits c = sized _ (omega (arith, next-at c .score-size, next-at c .within, entry c .pre .pairs))
@@ -86,7 +86,7 @@ residue-fits : (c : Turn) → SFits w64 (residue (D c) (w c) (x c))
 residue-fits c = sized _ (omega (arith, small c .residue-size))
 
 place : (c : Turn) → i c < length (c .before .before .before .loop .residues)
-place c = omega (arith, next-at c .within, c .before .before .before .loop .inv .same, entry c .pre .places)
+place c = omega (arith, next-at c .within, c .before .before .before .loop .inv .1 .same, entry c .pre .places)
 
 -- whether the pair has a zero
 test : (c : tie.After-has-zero Inv-loop μ-loop) → c .has-zero .result ≡ eqb (nonzero (w (c .before)) (x (c .before))) 0
@@ -96,6 +96,11 @@ test c = simp (toZ-ofZ (w-fits (c .before)), toZ-ofZ (x-fits (c .before))) at (c
 zero-at : (c : tie.Then1 Inv-loop μ-loop) → nonzero (w (c .before .before)) (x (c .before .before)) ≡ 0
 zero-at c = eqb-true _ 0 (sym (test (c .before)) ∙ c .if1 .taken)
 
+add-zeros : tie.Need-add-zeros Inv-loop μ-loop
+add-zeros c =
+    let turn = c .before .before in
+    omega (arith, turn .before .before .before .loop .inv .0, next-at turn .within, entry turn .pre .pairs)
+
 write-requires : tie.Need-write-requires Inv-loop μ-loop
 write-requires c κs = place (c .before .before .before)
 
@@ -103,11 +108,13 @@ loop-again : tie.Need-loop-again Inv-loop μ-loop
 loop-again c =
     let turn = c .before .before .before .before .before in
     let loop = turn .before .before .before .loop in
-    let none = zero-pair (D turn) (w turn) (x turn) (zero-at (c .before .before .before)) in
-    equally (c .before .write .ensures ∙ ap (λ (z : ℤ). set (loop .residues) (i turn) z) (sym (none .residue-is)))
-    (nothing (toZ w64 (loop .score)) (none .product-is)) (nothing (toZ w64 (loop .true-sum)) (none .truth-is))
-    (sym (ap (λ (z : ℤ). loop .magnitude-sum + natAbs z) (none .truth-is) ∙ add-zero _))
-    (sym (ap (λ (k : ℕ). loop .nonzero-pairs + k) (zero-at (c .before .before .before)) ∙ add-zero _)) (next-at turn)
+    let none = zero-pair (D turn) (w turn) (x turn) (zero-at (c .before .before .before)) in (
+      omega (arith, loop .inv .0),
+      equally (c .before .write .ensures ∙ ap (λ (z : ℤ). set (loop .residues) (i turn) z) (sym (none .residue-is)))
+          (nothing (toZ w64 (loop .score)) (none .product-is)) (nothing (toZ w64 (loop .true-sum)) (none .truth-is))
+          (sym (ap (λ (z : ℤ). loop .magnitude-sum + natAbs z) (none .truth-is) ∙ add-zero _))
+          (omega (arith, zero-at (c .before .before .before))) (next-at turn),
+    )
   where
     nothing : {p : ℤ} (sum : ℤ) → p ≡ pos 0 → sum ≡ sum +ℤ p
     nothing sum e = sym (ap (λ (z : ℤ). sum +ℤ z) e ∙ +ℤ-idr sum)
@@ -149,11 +156,6 @@ product-of-sizes-requires c κs = c .before .before .before .before .before .bef
 add-true-sum : tie.Need-add-true-sum Inv-loop μ-loop
 add-true-sum c = rw (truth-back c) (true-fits (turn-of c))
 
-add-nonzero-pairs : tie.Need-add-nonzero-pairs Inv-loop μ-loop
-add-nonzero-pairs c =
-    let turn = turn-of c in
-    omega (arith, next-at turn .pairs-size, next-at turn .within, entry turn .pre .pairs, counted (D turn) (w turn) (x turn) (full-at c))
-
 sum-fits : (c : Full) (m : ℕ) → m ≡ natAbs (back (c .before .true-product .result)) → turn-of c .before .before .before .loop .magnitude-sum + m < 2 ^ 64
 sum-fits c m e =
     let turn = turn-of c in
@@ -162,16 +164,19 @@ sum-fits c m e =
 on : (c : Full) {after : List ℤ} {score residue' : ℤ} {m : ℕ}
     → after ≡ set (turn-of c .before .before .before .loop .residues) (i (turn-of c)) (back residue') → residue' ≡ residue (D (turn-of c)) (w (turn-of c)) (x (turn-of c))
     → score ≡ scored (turn-of c) → m ≡ natAbs (back (c .before .true-product .result))
-    → SoFar (D (turn-of c)) (entry (turn-of c) .args .weights .now) (entry (turn-of c) .args .frame .now) (entry (turn-of c) .args .residues .now)
+    → (turn-of c .before .before .before .loop .zeros ≤ i (turn-of c) + 1)
+    × SoFar (D (turn-of c)) (entry (turn-of c) .args .weights .now) (entry (turn-of c) .args .frame .now) (entry (turn-of c) .args .residues .now)
     after (i (turn-of c) + 1) (back score) (back (toZ w64 (turn-of c .before .before .before .loop .true-sum) +ℤ back (c .before .true-product .result)))
-    (turn-of c .before .before .before .loop .magnitude-sum + m) (turn-of c .before .before .before .loop .nonzero-pairs + 1)
+    (turn-of c .before .before .before .loop .magnitude-sum + m) (i (turn-of c) + 1 - turn-of c .before .before .before .loop .zeros)
 on c ea er es em =
     let turn = turn-of c in
-    let loop = turn .before .before .before .loop in
-    equally (ea ∙ ap (λ (z : ℤ). set (loop .residues) (i turn) (back z)) er ∙ ap (λ (z : ℤ). set (loop .residues) (i turn) z) (toZ-ofZ (residue-fits turn)))
-    (ap back es ∙ toZ-ofZ (score-fits turn)) (ap (λ (z : ℤ). back (toZ w64 (loop .true-sum) +ℤ z)) (truth-back c) ∙ toZ-ofZ (true-fits turn))
-    (ap (λ (k : ℕ). loop .magnitude-sum + k) (em ∙ ap natAbs (truth-back c)))
-    (ap (λ (k : ℕ). loop .nonzero-pairs + k) (sym (counted (D turn) (w turn) (x turn) (full-at c)))) (next-at turn)
+    let loop = turn .before .before .before .loop in (
+      omega (arith, loop .inv .0),
+      equally (ea ∙ ap (λ (z : ℤ). set (loop .residues) (i turn) (back z)) er ∙ ap (λ (z : ℤ). set (loop .residues) (i turn) z) (toZ-ofZ (residue-fits turn)))
+          (ap back es ∙ toZ-ofZ (score-fits turn)) (ap (λ (z : ℤ). back (toZ w64 (loop .true-sum) +ℤ z)) (truth-back c) ∙ toZ-ofZ (true-fits turn))
+          (ap (λ (k : ℕ). loop .magnitude-sum + k) (em ∙ ap natAbs (truth-back c)))
+          (omega (arith, loop .inv .0, counted (D turn) (w turn) (x turn) (full-at c))) (next-at turn),
+    )
 
 -- a true product below 0: the design's is taken off the score
 minus-at : (c : tie.Then2 Inv-loop μ-loop) → signedProduct (D (turn-of (c .before))) (w (turn-of (c .before))) (x (turn-of (c .before))) ≡ negℤ (P (c .before))
@@ -235,28 +240,32 @@ loop-again-3 c =
 
 -- when every pair has been scored
 error-fits : (c : tie.After-loop Inv-loop μ-loop) → SFits w64 (toZ w64 (c .before .loop .true-sum) -ℤ toZ w64 (c .before .loop .score))
-error-fits c = sized _ (omega (arith, c .before .loop .inv .error-size, c .before .loop .inv .within, c .before .before .pre .pairs))
+error-fits c = sized _ (omega (arith, c .before .loop .inv .1 .error-size, c .before .loop .inv .1 .within, c .before .before .pre .pairs))
 
 sub-t36 : tie.Need-sub-t36 Inv-loop μ-loop
 sub-t36 c = error-fits c
 
+sub-t39 : tie.Need-sub-t39 Inv-loop μ-loop
+sub-t39 c = omega (arith, c .before .loop .inv .0, c .before .loop .inv .1 .within)
+
 same-length : tie.Need-same-length Inv-loop μ-loop
-same-length c = c .before .loop .inv .same
+same-length c = c .before .loop .inv .1 .same
 
 returns : tie.Need-returns Inv-loop μ-loop
 returns c =
     let at = c .before .loop in
     let pre = c .before .before .pre in
-    let few : at .i ≤ 4096 = omega (arith, at .inv .within, pre .pairs) in
+    let few : at .i ≤ 4096 = omega (arith, at .inv .1 .within, pre .pairs) in
+    let all = equally {n' = length (c .before .before .args .weights .now) - at .zeros} refl refl refl refl (omega (arith, at .inv .1 .within, c .loop-test .left)) (at .inv .1) in
     simp (toZ-ofZ (error-fits c))
     (record {
-      is = finished _ _ _ _ _ (at .i) _ _ _ _ (c .loop-test .left) (pre .lengths) (at .inv);
-      written = finished-residues _ _ _ _ _ (at .i) _ _ _ _ (c .loop-test .left) (pre .lengths) (at .inv);
+      is = finished _ _ _ _ _ (at .i) _ _ _ _ (c .loop-test .left) (pre .lengths) all;
+      written = finished-residues _ _ _ _ _ (at .i) _ _ _ _ (c .loop-test .left) (pre .lengths) all;
       small = record {
-        score = omega (arith, at .inv .score-size);
-        trueSum = omega (arith, at .inv .true-size);
-        error = omega (arith, at .inv .error-size);
-        magnitudeSum = omega (arith, at .inv .magnitude-size);
+        score = omega (arith, all .score-size);
+        trueSum = omega (arith, all .true-size);
+        error = omega (arith, all .error-size);
+        magnitudeSum = omega (arith, all .magnitude-size);
       };
     })
 
@@ -273,13 +282,13 @@ accumulate-spec =
     (λ c. search needs)
     (λ c. search needs)
     (λ c κs. search needs)
+    add-zeros
     write-requires
     (λ c. search needs)
     loop-again
     (λ c κs. search needs)
     product-of-sizes-requires
     add-true-sum
-    add-nonzero-pairs
     sub-score
     (λ c κs. search needs)
     add-magnitude-sum
@@ -295,5 +304,6 @@ accumulate-spec =
     (λ c. search needs)
     loop-again-3
     sub-t36
+    sub-t39
     same-length
     returns)
