@@ -81,7 +81,7 @@ static unsigned long row_refusals(int refused, const char *line) {
     for (int i = 0; i < CALLS; i++) {
         size_t columns = refused ? HIGHVANE_PAIRS_MAX + 1 : 1 + seeded() % HIGHVANE_PAIRS_MAX;
         size_t length = refused ? columns : ROWS * columns;
-        expect(highvane_row_refusal(store, length, columns, seeded() % ROWS) == (refused ? HIGHVANE_WRONG_COLUMNS : 0), line);
+        expect(highvane_row_refusal(store, length, columns, seeded() % ROWS) == (refused ? HIGHVANE_COLUMNS_OUT_OF_RANGE : 0), line);
     }
     return CALLS;
 }

@@ -37,22 +37,22 @@ enum highvane_refusal {
     HIGHVANE_ACCEPTED = 0,
     HIGHVANE_UNKNOWN_DESIGN = 1,        /* the design is not 1 to 4 */
     HIGHVANE_UNKNOWN_WIDTH = 2,         /* the width is not 8, 16 or 32 */
-    HIGHVANE_WRONG_SETTING = 3,         /* the setting is not one that the design takes */
+    HIGHVANE_SETTING_NOT_TAKEN = 3,     /* the setting is not one that the design takes */
     HIGHVANE_OPERAND_OUTSIDE_WIDTH = 4, /* an operand is not 0 to 2^w - 1, or, signed, not -2^(w-1) to 2^(w-1) - 1 */
     HIGHVANE_LENGTHS_DIFFER = 5,        /* weights and frame differ in length */
     HIGHVANE_TOO_MANY_PAIRS = 6,        /* the row has more than HIGHVANE_PAIRS_MAX pairs */
-    HIGHVANE_TOO_FEW_RESIDUES = 7,      /* the buffer for the residues is shorter than the row */
+    HIGHVANE_RESIDUES_TOO_SHORT = 7,    /* the buffer for the residues is shorter than the row */
     HIGHVANE_NOT_FINITE = 8,            /* an operand is infinite or NaN */
     HIGHVANE_SUBNORMAL = 9,             /* an operand is subnormal: exponent field 0, fraction not 0 */
     HIGHVANE_EXPONENT_TOO_LARGE = 10,   /* the result's exponent field would pass 254 */
     HIGHVANE_EXPONENT_TOO_SMALL = 11,   /* the result's exponent field would be below 1 */
-    HIGHVANE_WRONG_COLUMNS = 12,        /* the columns are 0 or more than HIGHVANE_PAIRS_MAX */
-    HIGHVANE_BROKEN_STORE = 13,         /* the store's length is not a multiple of the columns */
+    HIGHVANE_COLUMNS_OUT_OF_RANGE = 12, /* the columns are 0 or more than HIGHVANE_PAIRS_MAX */
+    HIGHVANE_UNEVEN_STORE = 13,         /* the store's length is not a multiple of the columns */
     HIGHVANE_NO_SUCH_ROW = 14,          /* the row number is not below the store's length / columns */
     HIGHVANE_SHIFT_TOO_LARGE = 15,      /* the shift is above HIGHVANE_SHIFT_MAX */
     HIGHVANE_SIZE_TOO_LARGE = 16,       /* the score or T is above 2^53 in size */
     HIGHVANE_UNKNOWN_KIND = 17,         /* the record's kind is unknown */
-    HIGHVANE_RECORD_CUT_SHORT = 18,     /* the record's body is cut short */
+    HIGHVANE_CUT_SHORT = 18,            /* the record's body is cut short */
     HIGHVANE_INPUT_TOO_LONG = 19        /* the input is longer than HIGHVANE_INPUT_MAX bytes */
 };
 

@@ -2,9 +2,10 @@
 """Check the compiled archive of the C interface, and print the bytes of each function.
 
 The chip has no multiplier, so no function that computes a design's product may hold a multiply instruction. Scoring a row also
-forms the true product of each pair, which the bench reads and the chip never does: one multiply there, and none in the kernel that
-it calls. The archive must need nothing from outside (no undefined symbol) and hold no data that a program could write, so that it
-can go into ROM as it is. Constants are counted: the byte table's 512 bytes.
+forms the true product of each pair, which the bench reads and the chip never does: one multiply in each of its loops, of which the
+compiler makes one for each design. The writer of decimals divides by ten, which the compiler does by a multiply. The archive must
+need nothing from outside (no undefined symbol) and hold no data that a program could write, so that it can go into ROM as it is.
+Constants are counted: the byte table's 512 bytes, and the words of a transcript.
 
 Usage: python3 tools/check_archive.py ARCHIVE     (rt staticlib capi writes target/staticlib/libcapi.a)
 """
@@ -14,12 +15,12 @@ import sys
 
 # every multiply of x86-64: mul, imul, mulx, and the vector ones (pmuludq, vpmulld, mulps, ..)
 MULTIPLY = re.compile(r'v?p?i?mul\w*|v?pmadd\w*|vf[n]?m(?:add|sub)\w*')
-# how many a function may have: a row's true product
-ALLOWED = {'highvane_score_row': 1}
+# how many a function may have: a row's true product in the loop of each design, a decimal's division by ten
+ALLOWED = {'highvane_score_row': 4, 'records::writers::put_decimal': 1}
 # sections that a program writes, or that run before it; and constants, with how many bytes they may have
 DATA = re.compile(r'\.(data|bss|tdata|tbss|init_array|fini_array)\b')
 CONSTANTS = re.compile(r'\.rodata\b')
-TABLE_BYTES = 512
+CONSTANT_BYTES = 512 + 40
 
 
 def output(*command):
@@ -67,8 +68,8 @@ def main():
             wrong.append(f'data: section {fields[0]} of {fields[1]} bytes')
         if len(fields) == 3 and CONSTANTS.match(fields[0]):
             constants += int(fields[1])
-    if constants > TABLE_BYTES:
-        wrong.append(f'{constants} bytes of constants, more than the byte table')
+    if constants > CONSTANT_BYTES:
+        wrong.append(f'{constants} bytes of constants, more than {CONSTANT_BYTES}')
     for name in sorted(sizes):
         print(f'{sizes[name]:6} bytes, {len(code[name]):4} instructions  {name}')
     for line in wrong:

@@ -1,5 +1,5 @@
-// The C interface: the proved operations under C names, each answer a struct by value. A field `refusal` of 0 means accepted; where
-// it is not 0 it is the number of the refusal and every other field is 0.
+// The C interface, which `include/highvane.h` declares: the proved operations under C names, each answer a struct by value. A field
+// `refusal` of 0 means accepted; where it is not 0 it is the number of the refusal and every other field is 0.
 ghost use mathlib.Core.Path.{_≡_};
 ghost use lib.ListN.{length};
 ghost use Rattle.designs.specs.Products.{unsignedOutcome, signedOutcome};
@@ -79,13 +79,6 @@ pub struct Report {
     pub refusal: u32,
 }
 
-#[repr(C)]
-pub struct Scaled {
-    pub score: f64,
-    pub magnitude_sum: f64,
-    pub refusal: u32,
-}
-
 #[no_mangle]
 pub extern "C" fn highvane_score_row(
     design: u32,
@@ -119,6 +112,20 @@ pub extern "C" fn highvane_score_row(
 }
 
 #[no_mangle]
+pub extern "C" fn highvane_row_refusal(store: &[i16], columns: usize, row: usize) -> u32
+    ensures { λ r. ⌜ r ≡ storeRefusal (length (now (store .entry))) columns row ⌝ }
+{
+    stores::row_refusal(store, columns, row)
+}
+
+#[repr(C)]
+pub struct Scaled {
+    pub score: f64,
+    pub magnitude_sum: f64,
+    pub refusal: u32,
+}
+
+#[no_mangle]
 pub extern "C" fn highvane_scale(score: i64, magnitude_sum: u64, shift: u32) -> Scaled
     ensures { λ r. ⌜ r ≡ scaledStruct (scaledOutcome score «magnitude_sum» shift) ⌝ }
 {
@@ -135,20 +142,6 @@ pub extern "C" fn highvane_scale(score: i64, magnitude_sum: u64, shift: u32) -> 
             refusal,
         },
     }
-}
-
-#[no_mangle]
-pub extern "C" fn highvane_row_refusal(store: &[i16], columns: usize, row: usize) -> u32
-    ensures { λ r. ⌜ r ≡ storeRefusal (length (now (store .entry))) columns row ⌝ }
-{
-    stores::row_refusal(store, columns, row)
-}
-
-#[no_mangle]
-pub extern "C" fn highvane_table_product(a: u8, b: u8) -> u16
-    ensures { λ r. ⌜ TableProduct a b r ⌝ }
-{
-    byte_table::table_product(a, b)
 }
 
 #[repr(C)]
@@ -169,6 +162,13 @@ pub extern "C" fn highvane_single_product(a: u32, b: u32) -> SingleProduct
             refusal,
         },
     }
+}
+
+#[no_mangle]
+pub extern "C" fn highvane_table_product(a: u8, b: u8) -> u16
+    ensures { λ r. ⌜ TableProduct a b r ⌝ }
+{
+    byte_table::table_product(a, b)
 }
 
 #[no_mangle]
