@@ -1,9 +1,9 @@
--- What design 4's kernel adds up, for two numbers of 32 bits and at most 31 kept bits. Each operand moved up to 2^31 and masked is 2^31
--- and its kept fraction at that place, so the sum less one 2^31 is there what the design folds; and the product is the folded sum, moved
--- up by 31 more, over 2^(k+m). Assumes nothing.
+-- What design 4's kernel adds up, for numbers of h + 1 bits and at most h kept bits. Each operand moved up to 2^h and masked is 2^h and
+-- its kept fraction at that place, so the sum less one 2^h is there what the design folds; and the product is the folded sum, moved up
+-- by h more, over 2^(k+m). Assumes nothing.
 use mathlib.Core.Path.{_≡_, sym, ap, ap₂, _∙_}
 use Prim.Native.Nat.{ℕ, _+_, _-_, _*_, _/_, _%_, _^_, _≤_, _<_}
-use native.Mathlib.Nat.{div-lt-iff-lt-mul, mod-eq-of-lt, mul-comm, mul-le-mul, mul-le-mul-right, sub-add-cancel}
+use native.Mathlib.Nat.{div-lt-iff-lt-mul, le-trans, mod-eq-of-lt, mul-comm, mul-le-mul, mul-le-mul-right, sub-add-cancel}
 use native.Mathlib.Omega.{arith}
 use lib.Bits.{bitAnd, and-high}
 use lib.Pow.{pow-add, pow-mono, pow-pos}
@@ -16,73 +16,77 @@ use Rattle.designs.proofs.Zeros.{product-is}
 up-to : (h i : ℕ) → i ≤ h → 2 ^ h ≡ 2 ^ (h - i) * 2 ^ i
 up-to h i l = ap (λ (x : ℕ). 2 ^ x) (sym (sub-add-cancel l)) ∙ pow-add 2 (h - i) i
 
--- a number of 64 bits without its u lowest bits
-masked : (n u : ℕ) → n < 2 ^ 64 → u ≤ 64 → bitAnd n (2 ^ 64 - 1 - (2 ^ u - 1)) ≡ n / 2 ^ u * 2 ^ u
-masked n u h l =
-    ap (bitAnd n) (less ∙ ap (λ (x : ℕ). 2 ^ x - 2 ^ u) (sym (sub-add-cancel l))) ∙ and-high n (64 - u) u
-    ∙ ap (λ (x : ℕ). x * 2 ^ u) (mod-eq-of-lt (div-lt-iff-lt-mul (pow-pos u) .1 (rw (sym (up-to 64 u l)) h)))
+-- a number of w bits without its u lowest bits
+masked : (w n u : ℕ) → n < 2 ^ w → u ≤ w → bitAnd n (2 ^ w - 1 - (2 ^ u - 1)) ≡ n / 2 ^ u * 2 ^ u
+masked w n u h l =
+    ap (bitAnd n) (less ∙ ap (λ (x : ℕ). 2 ^ x - 2 ^ u) (sym (sub-add-cancel l))) ∙ and-high n (w - u) u
+    ∙ ap (λ (x : ℕ). x * 2 ^ u) (mod-eq-of-lt (div-lt-iff-lt-mul (pow-pos u) .1 (rw (sym (up-to w u l)) h)))
   where
-    less : 2 ^ 64 - 1 - (2 ^ u - 1) ≡ 2 ^ 64 - 2 ^ u
+    less : 2 ^ w - 1 - (2 ^ u - 1) ≡ 2 ^ w - 2 ^ u
     less = omega (arith, pow-pos u)
 
--- an operand moved up by its headroom k, and masked
-pub kept-is : (x k t : ℕ) → 0 < x → x < 2 ^ 32 → k + log2 x ≡ 31 → t ≤ 31
-    → bitAnd (x * 2 ^ k) (2 ^ 64 - 1 - (2 ^ (31 - t) - 1)) ≡ (2 ^ t + kept t x) * 2 ^ (31 - t)
-kept-is x k t p h e l =
-    masked (x * 2 ^ k) (31 - t) small (omega arith)
-    ∙ ap (λ (y : ℕ). y * 2 ^ (31 - t)) (ap (λ (j : ℕ). x * 2 ^ j / 2 ^ (31 - t)) reach ∙ shift-down 31 t (log2 x) x l (omega arith) ∙ ap (λ (y : ℕ). y / 2 ^ log2 x) (mul-comm (2 ^ t) x) ∙ shifted t x p)
+-- an operand moved up by its headroom k, and masked in w bits
+pub kept-is : (w h x k t : ℕ) → h + h < w → 0 < x → x < 2 ^ (h + 1) → k + log2 x ≡ h → t ≤ h
+    → bitAnd (x * 2 ^ k) (2 ^ w - 1 - (2 ^ (h - t) - 1)) ≡ (2 ^ t + kept t x) * 2 ^ (h - t)
+kept-is w h x k t room p l e lt =
+    masked w (x * 2 ^ k) (h - t) small (omega arith)
+    ∙ ap (λ (y : ℕ). y * 2 ^ (h - t))
+    (ap (λ (j : ℕ). x * 2 ^ j / 2 ^ (h - t)) reach ∙ shift-down h t (log2 x) x lt (omega arith) ∙ ap (λ (y : ℕ). y / 2 ^ log2 x) (mul-comm (2 ^ t) x) ∙ shifted t x p)
   where
-    reach : k ≡ 31 - log2 x
+    reach : k ≡ h - log2 x
     reach = omega arith
 
-    small : x * 2 ^ k < 2 ^ 64
-    small = omega (arith, mul-le-mul h (pow-mono {i = k} {j = 31} (omega arith)), pow-pos k)
+    whole : 2 ^ (h + 1) * 2 ^ h ≤ 2 ^ w
+    whole = rw (sym (pow-add 2 (h + 1) h)) (pow-mono {i = h + 1 + h} (omega arith))
 
-pub record Sum (t A B k m : ℕ) : Type 0 where
-  pub whole : (2 ^ t + kept t A) * 2 ^ (31 - t) + (2 ^ t + kept t B) * 2 ^ (31 - t) + 2 ^ (31 - t) ≡ 2 ^ 31 + total t A B * 2 ^ (31 - t)
-  pub low : 2 ^ 31 ≤ total t A B * 2 ^ (31 - t)
-  pub high : total t A B * 2 ^ (31 - t) < 3 * 2 ^ 31
-  pub folded : fold (2 ^ 31) (total t A B * 2 ^ (31 - t)) < 4 * 2 ^ 31
-  pub is : fold (2 ^ 31) (total t A B * 2 ^ (31 - t)) * 2 ^ 31 / 2 ^ (k + m) ≡ product (truncated t) A B
+    small : x * 2 ^ k < 2 ^ w
+    small = omega (arith, mul-le-mul l (pow-mono {i = k} {j = h} (omega arith)), pow-pos k, whole)
 
-pub sum : (t A B k m : ℕ) → t ≤ 31 → 0 < A → 0 < B → k + log2 A ≡ 31 → m + log2 B ≡ 31 → Sum t A B k m
+pub record Sum (h t A B k m : ℕ) : Type 0 where
+  pub whole : (2 ^ t + kept t A) * 2 ^ (h - t) + (2 ^ t + kept t B) * 2 ^ (h - t) + 2 ^ (h - t) ≡ 2 ^ h + total t A B * 2 ^ (h - t)
+  pub low : 2 ^ h ≤ total t A B * 2 ^ (h - t)
+  pub high : total t A B * 2 ^ (h - t) < 3 * 2 ^ h
+  pub folded : fold (2 ^ h) (total t A B * 2 ^ (h - t)) < 4 * 2 ^ h
+  pub is : fold (2 ^ h) (total t A B * 2 ^ (h - t)) * 2 ^ h / 2 ^ (k + m) ≡ product (truncated t) A B
+
+pub sum : (h t A B k m : ℕ) → t ≤ h → 0 < A → 0 < B → k + log2 A ≡ h → m + log2 B ≡ h → Sum h t A B k m
 unfolding formula
-sum t A B k m ht pa pb ek em =
+sum h t A B k m ht pa pb ek em =
     record {
       whole = omega (arith, up);
       low = omega (arith, up, mul-le-mul-right P low);
       high = high;
-      folded = fold-lt (2 ^ 31) (total t A B * P) (pow-pos 31) high;
+      folded = fold-lt (2 ^ h) (total t A B * P) (pow-pos h) high;
       is =
-          ap₂ (λ (x y : ℕ). x * 2 ^ 31 / 2 ^ y) folds both ∙ ap (λ (x : ℕ). x / 2 ^ (62 - e)) raised
-          ∙ shift-down 62 e t (fold (2 ^ t) (total t A B)) (omega arith) (omega arith) ∙ sym (product-is (truncated t) A B pa pb ∙ truncation-at t A B);
+          ap₂ (λ (x y : ℕ). x * 2 ^ h / 2 ^ y) folds both ∙ ap (λ (x : ℕ). x / 2 ^ (h + h - e)) raised
+          ∙ shift-down (h + h) e t (fold (2 ^ t) (total t A B)) (omega arith) (omega arith) ∙ sym (product-is (truncated t) A B pa pb ∙ truncation-at t A B);
     }
   where
     P : ℕ
-    P = 2 ^ (31 - t)
+    P = 2 ^ (h - t)
 
     e : ℕ
     e = log2 A + log2 B
 
-    up : 2 ^ 31 ≡ P * 2 ^ t
-    up = up-to 31 t ht
+    up : 2 ^ h ≡ P * 2 ^ t
+    up = up-to h t ht
 
     low : 2 ^ t ≤ total t A B
     low = omega arith
 
-    high : total t A B * P < 3 * 2 ^ 31
-    high = omega (arith, up, mul-le-mul-right P (total-lt t A B), pow-pos (31 - t))
+    high : total t A B * P < 3 * 2 ^ h
+    high = omega (arith, up, mul-le-mul-right P (total-lt t A B), pow-pos (h - t))
 
-    both : k + m ≡ 62 - e
+    both : k + m ≡ h + h - e
     both = omega arith
 
-    folds : fold (2 ^ 31) (total t A B * P) ≡ fold (2 ^ t) (total t A B) * P
+    folds : fold (2 ^ h) (total t A B * P) ≡ fold (2 ^ t) (total t A B) * P
     folds =
-        ap₂ fold up (mul-comm (total t A B) P) ∙ fold-scale P (2 ^ t) (kept t A + kept t B + 1) (pow-pos (31 - t))
+        ap₂ fold up (mul-comm (total t A B) P) ∙ fold-scale P (2 ^ t) (kept t A + kept t B + 1) (pow-pos (h - t))
         ∙ mul-comm P (fold (2 ^ t) (total t A B))
 
-    further : P * 2 ^ 31 ≡ 2 ^ (62 - t)
-    further = sym (pow-add 2 (31 - t) 31) ∙ ap (λ (x : ℕ). 2 ^ x) (omega arith)
+    further : P * 2 ^ h ≡ 2 ^ (h + h - t)
+    further = sym (pow-add 2 (h - t) h) ∙ ap (λ (x : ℕ). 2 ^ x) (omega arith)
 
-    raised : fold (2 ^ t) (total t A B) * P * 2 ^ 31 ≡ fold (2 ^ t) (total t A B) * 2 ^ (62 - t)
+    raised : fold (2 ^ t) (total t A B) * P * 2 ^ h ≡ fold (2 ^ t) (total t A B) * 2 ^ (h + h - t)
     raised = omega (arith, ap (λ (x : ℕ). fold (2 ^ t) (total t A B) * x) further)

@@ -22,8 +22,8 @@ start c = c .before .before .before .before .before
 small : (c : tie.After-headroom2) → t c ≤ 31
 small c = rw (c .before .before .at-most-31 .ensures) (min-le-right (start c .args .kept-bits) 31)
 
-sum-at : (c : tie.After-headroom2) → Sum (t c) (start c .args .a) (start c .args .b) (c .before .headroom .result) (c .headroom2 .result)
-sum-at c = sum _ _ _ _ _ (small c) (omega arith) (omega arith) (c .before .headroom .ensures) (c .headroom2 .ensures)
+sum-at : (c : tie.After-headroom2) → Sum 31 (t c) (start c .args .a) (start c .args .b) (c .before .headroom .result) (c .headroom2 .result)
+sum-at c = sum 31 _ _ _ _ _ (small c) (omega arith) (omega arith) (c .before .headroom .ensures) (c .headroom2 .ensures)
 
 returns : tie.Need-returns
 returns c = zero-left (truncated _) _ _ (c .if1 .taken)
