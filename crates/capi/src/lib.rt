@@ -172,7 +172,7 @@ pub extern "C" fn highvane_table_product(a: u8, b: u8) -> u16
 }
 
 #[no_mangle]
-pub extern "C" fn highvane_transcript(input: &[u8], out: &mut [u8; 245760]) -> usize
+pub extern "C" fn highvane_transcript(input: &[u8], out: &mut [u8; records::PLACES]) -> usize
     ensures { λ r. ⌜ Written (now (input .entry)) (now (out .entry)) (now (out .exit)) r ⌝ }
 {
     records::transcript(input, out)

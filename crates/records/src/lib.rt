@@ -13,11 +13,13 @@ pub use readings::Entry;
 pub use readings::Reading;
 pub use readings::read_record;
 
-// The most bytes that are read.
+// The most bytes that are read, and the places that hold the transcript of any input.
 pub const LONGEST: usize = 65536;
 
+pub const PLACES: usize = 245760;
+
 // Writes the transcript of an input at the start of a buffer that has room for any, and gives its length.
-pub fn transcript(input: &[u8], out: &mut [u8; 245760]) -> usize
+pub fn transcript(input: &[u8], out: &mut [u8; PLACES]) -> usize
     ensures { λ r. ⌜ Written (now (input .entry)) (now (out .entry)) (now (out .exit)) r ⌝ }
 {
     if LONGEST < input.len() {

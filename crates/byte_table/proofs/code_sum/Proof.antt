@@ -7,18 +7,6 @@ use Rattle.byte_table.proofs.Entries.{entry, entry-lt}
 use Rattle.byte_table.proofs.code_sum.Statement.{statement}
 use Rattle.byte_table.proofs.code_sum.Tie as tie
 
-mul-result : tie.Need-mul-result
-mul-result c = search needs
-
-element-copy-out-result : tie.Need-element-copy-out-result
-element-copy-out-result c = search needs
-
-mul-result-2 : tie.Need-mul-result-2
-mul-result-2 c = search needs
-
-element-copy-out-result-2 : tie.Need-element-copy-out-result-2
-element-copy-out-result-2 c = search needs
-
 add-result : tie.Need-add-result
 add-result c =
     let start = c .before .before in
@@ -38,9 +26,9 @@ pub code-sum-spec : {M : Type 1} → statement M
 code-sum-spec =
     tie.close
     (tie.spec
-    mul-result
-    element-copy-out-result
-    mul-result-2
-    element-copy-out-result-2
+    (λ c. search needs)
+    (λ c. search needs)
+    (λ c. search needs)
+    (λ c. search needs)
     add-result
     returns)

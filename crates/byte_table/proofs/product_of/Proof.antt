@@ -9,18 +9,6 @@ use Rattle.designs.specs.Codes.{scaledProduct}
 use Rattle.byte_table.proofs.product_of.Statement.{statement}
 use Rattle.byte_table.proofs.product_of.Tie as tie
 
-add-result : tie.Need-add-result
-add-result c = search needs
-
-cast-result : tie.Need-cast-result
-cast-result c = search needs
-
-cast-result-2 : tie.Need-cast-result-2
-cast-result-2 c = search needs
-
-shl-result : tie.Need-shl-result
-shl-result c = search needs
-
 shifted-lt : (x q : ℕ) → x < 2 ^ 8 → q ≤ 15 → (x * 2 ^ q) % 2 ^ 32 / 2 ^ 7 < 2 ^ 16
 shifted-lt x q h l =
     rw (shl-exact 8 q 32 h (omega arith)) (shr-lt 16 7 (lt-of-lt-of-le (shl-lt 8 q h) (pow-mono {j = 23} (omega arith))))
@@ -34,4 +22,4 @@ returns c = ap (λ (x : ℕ). x / 128) (shl-exact 8 (c .args .sum / 128) 32 (ome
 
 pub product-of-spec : {M : Type 1} → statement M
 product-of-spec =
-    tie.close (tie.spec add-result cast-result cast-result-2 shl-result cast-result-3 returns)
+    tie.close (tie.spec (λ c. search needs) (λ c. search needs) (λ c. search needs) (λ c. search needs) cast-result-3 returns)

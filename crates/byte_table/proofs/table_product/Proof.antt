@@ -29,9 +29,6 @@ code-sum-requires : tie.Need-code-sum-requires
 unfolding every isCode
 code-sum-requires c κs = (record { long = refl; coded = tt }, search needs)
 
-product-of-requires : tie.Need-product-of-requires
-product-of-requires c κs = search needs
-
 returns-3 : tie.Need-returns-3
 returns-3 c =
     let start = c .before .before .before .before .before in
@@ -41,4 +38,4 @@ returns-3 c =
 
 pub table-product-spec : {M : Type 1} → statement M
 table-product-spec =
-    tie.close (tie.spec returns returns-2 code-sum-requires product-of-requires returns-3)
+    tie.close (tie.spec returns returns-2 code-sum-requires (λ c κs. search needs) returns-3)

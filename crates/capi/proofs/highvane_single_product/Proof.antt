@@ -22,15 +22,6 @@ laid-out : (o : Outcome ℕ) → laid (asSingle o) ≡ singleStruct o
 laid-out (accepted p) = refl
 laid-out (refused n) = refl
 
-single-product-requires : tie.Need-single-product-requires
-single-product-requires c κs = search needs
-
-enum-known-answer : tie.Need-enum-known-answer
-enum-known-answer c = search needs
-
-enum-known-answer-2 : tie.Need-enum-known-answer-2
-enum-known-answer-2 c = search needs
-
 returns : tie.Need-returns
 returns c = sym (ap laid (c .before .answer .given .1)) ∙ ap laid (c .before .before .before .single-product .ensures .value) ∙ laid-out (singleOutcome (c .before .before .before .before .args .a) (c .before .before .before .before .args .b))
 
@@ -40,4 +31,4 @@ returns-2 c = sym (ap laid (c .before .answer2 .given .1)) ∙ ap laid (c .befor
 pub highvane-single-product-spec : {M : Type 1} → statement M
 highvane-single-product-spec =
     tie.close
-    (tie.spec single-product-requires enum-known-answer enum-known-answer-2 returns returns-2)
+    (tie.spec (λ c κs. search needs) (λ c. search needs) (λ c. search needs) returns returns-2)

@@ -16,9 +16,6 @@ same-is-no-nan nan e = absurd (false≢true (sym e ∙ nan-differs))
 same-is-no-nan (inf s) e = tt
 same-is-no-nan (fin s m e) q = tt
 
-enum-known-answer : tie.Need-enum-known-answer
-enum-known-answer c = search needs
-
 returns : tie.Need-returns
 unfolding toBits
 returns c =
@@ -29,9 +26,6 @@ returns c =
 float-to-bits-t6 : tie.Need-float-to-bits-t6
 float-to-bits-t6 c = same-is-no-nan (c .before .before .answer .given .0 .0) (c .if1 .left)
 
-enum-known-answer-2 : tie.Need-enum-known-answer-2
-enum-known-answer-2 c = search needs
-
 returns-2 : tie.Need-returns-2
 returns-2 c = sym (ap singleGiven (c .before .before .answer .given .1))
 
@@ -41,4 +35,4 @@ returns-3 c = sym (ap singleGiven (c .before .answer2 .given .1))
 pub bits-spec : {M : Type 1} → statement M
 bits-spec =
     tie.close
-    (tie.spec enum-known-answer returns float-to-bits-t6 enum-known-answer-2 returns-2 returns-3)
+    (tie.spec (λ c. search needs) returns float-to-bits-t6 (λ c. search needs) returns-2 returns-3)

@@ -17,39 +17,12 @@ fractions : (c : tie.After-fraction-field2) → let start = c .before .before .b
     c .before .fraction-field .result + c .fraction-field2 .result ≡ fractionField binary32 (start .x .bits) + fractionField binary32 (start .y .bits)
 fractions c = rw (c .before .fraction-field .ensures, c .fraction-field2 .ensures)
 
-exponent-field-requires : tie.Need-exponent-field-requires
-exponent-field-requires c κs = search needs
-
-exponent-field-requires-2 : tie.Need-exponent-field-requires-2
-exponent-field-requires-2 c κs = search needs
-
-add-exponents : tie.Need-add-exponents
-add-exponents c = search needs
-
-fraction-field-requires : tie.Need-fraction-field-requires
-fraction-field-requires c κs = search needs
-
-fraction-field-requires-2 : tie.Need-fraction-field-requires-2
-fraction-field-requires-2 c κs = search needs
-
-add-fractions : tie.Need-add-fractions
-add-fractions c = search needs
-
-judged-requires : tie.Need-judged-requires
-judged-requires c κs = search needs
-
 returns : tie.Need-returns
 unfolding productFields
 returns c =
     let sums = c .before .before in
     c .judged .ensures
     ∙ simp (exponents (sums .before .before), fractions sums, lt-ltb _ _ (rw (fractions sums) at (c .before .if1 .taken)))
-
-add-judged : tie.Need-add-judged
-add-judged c = search needs
-
-judged-requires-2 : tie.Need-judged-requires-2
-judged-requires-2 c κs = search needs
 
 returns-2 : tie.Need-returns-2
 unfolding productFields
@@ -62,14 +35,14 @@ pub normal-product-spec : {M : Type 1} → statement M
 normal-product-spec =
     tie.close
     (tie.spec
-    exponent-field-requires
-    exponent-field-requires-2
-    add-exponents
-    fraction-field-requires
-    fraction-field-requires-2
-    add-fractions
-    judged-requires
+    (λ c κs. search needs)
+    (λ c κs. search needs)
+    (λ c. search needs)
+    (λ c κs. search needs)
+    (λ c κs. search needs)
+    (λ c. search needs)
+    (λ c κs. search needs)
     returns
-    add-judged
-    judged-requires-2
+    (λ c. search needs)
+    (λ c κs. search needs)
     returns-2)

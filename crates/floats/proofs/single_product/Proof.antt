@@ -56,36 +56,6 @@ finite c = ap not (sym (finite-is (c .before))) ∙ c .if1 .left
 served : (c : tie.Else2) → isSubnormal binary32 (a (c .before .before)) || isSubnormal binary32 (b (c .before .before)) ≡ false
 served c = sym (subnormal-is (c .before .before)) ∙ c .if2 .left
 
-from-bits-requires : tie.Need-from-bits-requires
-from-bits-requires c κs = search needs
-
-from-bits-requires-2 : tie.Need-from-bits-requires-2
-from-bits-requires-2 c κs = search needs
-
-is-finite-requires : tie.Need-is-finite-requires
-is-finite-requires c κs = search needs
-
-is-finite-requires-2 : tie.Need-is-finite-requires-2
-is-finite-requires-2 c κs = search needs
-
-is-subnormal-requires : tie.Need-is-subnormal-requires
-is-subnormal-requires c κs = search needs
-
-is-subnormal-requires-2 : tie.Need-is-subnormal-requires-2
-is-subnormal-requires-2 c κs = search needs
-
-is-zero-requires : tie.Need-is-zero-requires
-is-zero-requires c κs = search needs
-
-is-zero-requires-2 : tie.Need-is-zero-requires-2
-is-zero-requires-2 c κs = search needs
-
-is-minus-requires : tie.Need-is-minus-requires
-is-minus-requires c κs = search needs
-
-is-minus-requires-2 : tie.Need-is-minus-requires-2
-is-minus-requires-2 c κs = search needs
-
 returns : tie.Need-returns
 unfolding singleOutcome
 returns c = answered _ _ _ (ap asSingle (not-finite binary32 _ _ _ (ap not (sym (finite-is (c .before))) ∙ c .if1 .taken)))
@@ -93,9 +63,6 @@ returns c = answered _ _ _ (ap asSingle (not-finite binary32 _ _ _ (ap not (sym 
 returns-2 : tie.Need-returns-2
 unfolding singleOutcome
 returns-2 c = answered _ _ _ (ap asSingle (subnormal binary32 _ _ _ (finite (c .before)) (sym (subnormal-is (c .before .before)) ∙ c .if2 .taken)))
-
-value-requires : tie.Need-value-requires
-value-requires c κs = search needs
 
 returns-3 : tie.Need-returns-3
 unfolding singleOutcome
@@ -105,9 +72,6 @@ returns-3 c =
     answered _ _ _
     (c .value .ensures
     ∙ ap asSingle (zero binary32 _ _ _ (finite (passed .before)) (served passed) (sign-is read) (sym (zero-is read) ∙ c .before .if3 .taken)))
-
-normal-product-requires : tie.Need-normal-product-requires
-normal-product-requires c κs = search needs
 
 returns-4 : tie.Need-returns-4
 unfolding singleOutcome
@@ -122,19 +86,19 @@ pub single-product-spec : {M : Type 1} → statement M
 single-product-spec =
     tie.close
     (tie.spec
-    from-bits-requires
-    from-bits-requires-2
-    is-finite-requires
-    is-finite-requires-2
-    is-subnormal-requires
-    is-subnormal-requires-2
-    is-zero-requires
-    is-zero-requires-2
-    is-minus-requires
-    is-minus-requires-2
+    (λ c κs. search needs)
+    (λ c κs. search needs)
+    (λ c κs. search needs)
+    (λ c κs. search needs)
+    (λ c κs. search needs)
+    (λ c κs. search needs)
+    (λ c κs. search needs)
+    (λ c κs. search needs)
+    (λ c κs. search needs)
+    (λ c κs. search needs)
     returns
     returns-2
-    value-requires
+    (λ c κs. search needs)
     returns-3
-    normal-product-requires
+    (λ c κs. search needs)
     returns-4)

@@ -4,9 +4,6 @@ use Rattle.floats.proofs.Values.{no-nan}
 use Rattle.floats.proofs.value.Statement.{statement}
 use Rattle.floats.proofs.value.Tie as tie
 
-from-fields-requires : tie.Need-from-fields-requires
-from-fields-requires c κs = search needs
-
 float-from-bits-t5 : tie.Need-float-from-bits-t5
 float-from-bits-t5 c =
     let start = c .before .before in
@@ -16,4 +13,4 @@ returns : tie.Need-returns
 returns c = rw (c .before .from-fields .ensures)
 
 pub value-spec : {M : Type 1} → statement M
-value-spec = tie.close (tie.spec from-fields-requires float-from-bits-t5 returns)
+value-spec = tie.close (tie.spec (λ c κs. search needs) float-from-bits-t5 returns)

@@ -65,9 +65,6 @@ returns-4 c =
     let args = judged .before .args in
     (by-sum (args .score) (args .magnitude-sum) (args .shift) (shift-small judged) (score-small (c .before)) (omega arith), tt)
 
-shl-power : tie.Need-shl-power
-shl-power c = search needs
-
 int-to-float-power : tie.Need-int-to-float-power
 int-to-float-power c =
     let judged = c .before .before .before .before in
@@ -105,7 +102,7 @@ scale-spec =
     returns-2
     returns-3
     returns-4
-    shl-power
+    (λ c. search needs)
     int-to-float-power
     int-to-float-score
     int-to-float-magnitude-sum

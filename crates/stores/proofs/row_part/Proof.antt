@@ -10,15 +10,6 @@ use Rattle.stores.proofs.Handed.{row-handed, nothing-handed}
 use Rattle.stores.proofs.row_part.Statement.{statement}
 use Rattle.stores.proofs.row_part.Tie as tie
 
-row-refusal-requires : tie.Need-row-refusal-requires
-row-refusal-requires c κs = search needs
-
-sub-result : tie.Need-sub-result
-sub-result c = search needs
-
-part-result-start : tie.Need-part-result-start
-part-result-start c = search needs
-
 part-result-end : tie.Need-part-result-end
 part-result-end c = omega arith
 
@@ -44,12 +35,6 @@ add-end c = omega (arith, settled c)
 mul-view : tie.Need-mul-view
 mul-view c = omega (arith, settled c)
 
-sub-view : tie.Need-sub-view
-sub-view c = search needs
-
-part-view-start : tie.Need-part-view-start
-part-view-start c = search needs
-
 part-view-end : tie.Need-part-view-end
 part-view-end c = omega (arith, settled c)
 
@@ -62,15 +47,15 @@ pub row-part-spec : {M : Type 1} → statement M
 row-part-spec =
     tie.close
     (tie.spec
-    row-refusal-requires
-    sub-result
-    part-result-start
+    (λ c κs. search needs)
+    (λ c. search needs)
+    (λ c. search needs)
     part-result-end
     returns
     mul-start
     add-end
     mul-view
-    sub-view
-    part-view-start
+    (λ c. search needs)
+    (λ c. search needs)
     part-view-end
     returns-2)

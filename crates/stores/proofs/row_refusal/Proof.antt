@@ -11,14 +11,8 @@ returns c = no-columns _ _ _ (omega arith)
 returns-2 : tie.Need-returns-2
 returns-2 c = many-columns _ _ _ (omega arith)
 
-rem-if3 : tie.Need-rem-if3
-rem-if3 c = search needs
-
 returns-3 : tie.Need-returns-3
 returns-3 c = uneven _ _ _ (omega arith) (omega arith) (c .if3 .taken)
-
-div-if4 : tie.Need-div-if4
-div-if4 c = search needs
 
 returns-4 : tie.Need-returns-4
 returns-4 c = past-end _ _ _ (omega arith) (omega arith) (omega arith) (omega arith)
@@ -27,4 +21,4 @@ returns-5 : tie.Need-returns-5
 returns-5 c = found _ _ _ (omega arith) (omega arith) (omega arith) (omega arith)
 
 pub row-refusal-spec : {M : Type 1} → statement M
-row-refusal-spec = tie.close (tie.spec returns returns-2 rem-if3 returns-3 div-if4 returns-4 returns-5)
+row-refusal-spec = tie.close (tie.spec returns returns-2 (λ c. search needs) returns-3 (λ c. search needs) returns-4 returns-5)

@@ -4,12 +4,6 @@ use native.Mathlib.Omega.{arith}
 use Rattle.floats.proofs.formats.Binary32.from_fields.Statement.{statement}
 use Rattle.floats.proofs.formats.Binary32.from_fields.Tie as tie
 
-add-size : tie.Need-add-size
-add-size c = search needs
-
-add-t8 : tie.Need-add-t8
-add-t8 c = search needs
-
 returns : tie.Need-returns
 returns c = rw (c .if1 .taken) (omega arith)
 
@@ -17,4 +11,4 @@ returns-2 : tie.Need-returns-2
 returns-2 c = rw (c .if1 .left) (omega arith)
 
 pub from-fields-spec : {M : Type 1} → statement M
-from-fields-spec = tie.close (tie.spec add-size add-t8 returns returns-2)
+from-fields-spec = tie.close (tie.spec (λ c. search needs) (λ c. search needs) returns returns-2)
