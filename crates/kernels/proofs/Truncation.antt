@@ -2,8 +2,8 @@
 -- its kept fraction at that place, so the sum less one 2^h is there what the design folds; and the product is the folded sum, moved up
 -- by h more, over 2^(k+m). Assumes nothing.
 use mathlib.Core.Path.{_≡_, sym, ap, ap₂, _∙_}
-use Prim.Native.Nat.{ℕ, _+_, _-_, _*_, _/_, _%_, _^_, _≤_, _<_}
-use native.Mathlib.Nat.{div-lt-iff-lt-mul, le-trans, mod-eq-of-lt, mul-comm, mul-le-mul, mul-le-mul-right, sub-add-cancel}
+use Prim.Native.Nat.{ℕ, _+_, _-_, _*_, _/_, _^_, _≤_, _<_}
+use native.Mathlib.Nat.{div-lt-iff-lt-mul, mod-eq-of-lt, mul-comm, mul-le-mul, mul-le-mul-right, sub-add-cancel}
 use native.Mathlib.Omega.{arith}
 use lib.Bits.{bitAnd, and-high}
 use lib.Pow.{pow-add, pow-mono, pow-pos}

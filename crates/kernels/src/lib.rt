@@ -110,7 +110,7 @@ pub fn truncated(kept_bits: u32, a: u32, b: u32) -> u64
     let k = headroom(a);
     let m = headroom(b);
     let one = power(31);
-    // each operand is one and its kept fraction; the sum wants one of the two ones, and the carry of 1, which counts kept bits
+    // each operand is one and its kept fraction; the sum wants one of the two ones, and the carry of 1 at the last kept bit
     let sum = kept_of(a, k, t) + kept_of(b, m, t) + power(31 - t) - one;
     // 2^31 × 2^31 over the power of the product is 2^(k+m)
     (folded(one, sum) << 31) >> (k + m)

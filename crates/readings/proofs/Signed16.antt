@@ -20,6 +20,3 @@ module _ (n : ℕ) (small : n < 65536) where
 
   pub signed16-size : natAbs (signed16 n) < 2 ^ 16
   signed16-size = by-lt (λ (z : ℤ). natAbs z < 2 ^ 16) n 32768 (λ h. small) (λ h. rw below (omega arith))
-
-  pub signed16-fits : SFits w64 (signed16 n)
-  signed16-fits = sized (signed16 n) (omega (arith, signed16-size))

@@ -5,7 +5,7 @@ use native.Mathlib.Omega.{arith}
 use Prim.Native.Nat.{ℕ, _+_, _-_, _≤_, _<_}
 use mathlib.Core.Path.{_≡_, ap, _∙_}
 use mathlib.Core.List.{List}
-use lib.ListN.{length, drop, length-drop}
+use lib.ListN.{length, drop}
 use Rattle.readings.specs.Records.{recordOf}
 use Rattle.readings.specs.Answers.{answerGiven, entryGiven}
 use Rattle.readings.proofs.OneRecord.{tail}

@@ -1,5 +1,6 @@
--- The loop keeps what `SoFar` says: after i pairs, the report and the residues of the first i. At most 4,096 pairs of at most
--- 2^31 − 1 each stay below 2^43. Assumes nothing.
+-- The loop keeps what `SoFar` says: after i pairs, the report and the residues of the first i. What the code adds for a pair is what
+-- the report adds, whether the pair has a zero or its true product is below or above 0; and at most 4,096 pairs of at most 2^31 − 1
+-- each stay below 2^43. Assumes nothing.
 use borrow.Author.Needs.{needs}
 use borrow.Author.Tests.{eqb-true, eqb-false}
 use mathlib.Core.Path.{_≡_, refl, sym, ap, ap₂, _∙_}
@@ -55,11 +56,9 @@ w c = getD (entry c .args .weights .now) (i c) (pos 0)
 abbrev x : Turn → ℤ
 x c = getD (entry c .args .frame .now) (i c) (pos 0)
 
-w-fits : (c : Turn) → SFits w16 (w c)
-w-fits c = record { sfits = c .before .w .given }
-
-x-fits : (c : Turn) → SFits w16 (x c)
-x-fits c = record { sfits = c .x .given }
+-- its residue, and the sums with it, as they are meant
+abbrev residue-of : Turn → ℤ
+residue-of c = residue (D c) (w c) (x c)
 
 abbrev scored : Turn → ℤ
 scored c = toZ w64 (c .before .before .before .loop .score) +ℤ signedProduct (D c) (w c) (x c)
@@ -67,26 +66,39 @@ scored c = toZ w64 (c .before .before .before .loop .score) +ℤ signedProduct (
 abbrev summed : Turn → ℤ
 summed c = toZ w64 (c .before .before .before .loop .true-sum) +ℤ w c *ℤ x c
 
-small : (c : Turn) → Bounds (D c) (w c) (x c)
-small c = bounds (D c) (w c) (x c) (entry c .pre .keeps) (w-fits c) (x-fits c)
+abbrev written : Turn → ℤ → List ℤ
+written c z = set (c .before .before .before .loop .residues) (i c) z
 
-next-at : (c : Turn)
-    → SoFar (D c) (entry c .args .weights .now) (entry c .args .frame .now) (entry c .args .residues .now)
-    (set (c .before .before .before .loop .residues) (i c) (residue (D c) (w c) (x c))) (i c + 1) (scored c) (summed c)
-    (c .before .before .before .loop .magnitude-sum + natAbs (w c *ℤ x c)) (i c - c .before .before .before .loop .zeros + nonzero (w c) (x c))
-next-at c = next (D c) _ _ _ _ (i c) _ _ _ _ (omega arith) (entry c .pre .lengths) (entry c .pre .places) (c .before .before .before .loop .inv .1) (small c)
+-- what is claimed of numbers after it
+abbrev Then : Turn → List ℤ → ℤ → ℤ → ℕ → ℕ → Type 0
+Then c after score trueSum T n =
+    SoFar (D c) (entry c .args .weights .now) (entry c .args .frame .now) (entry c .args .residues .now) after (i c + 1) score trueSum T n
 
-score-fits : (c : Turn) → SFits w64 (scored c)
-score-fits c = sized _ (omega (arith, next-at c .score-size, next-at c .within, entry c .pre .pairs))
+module _ (c : Turn) where
+  w-fits : SFits w16 (w c)
+  w-fits = record { sfits = c .before .w .given }
 
-true-fits : (c : Turn) → SFits w64 (summed c)
-true-fits c = sized _ (omega (arith, next-at c .true-size, next-at c .within, entry c .pre .pairs))
+  x-fits : SFits w16 (x c)
+  x-fits = record { sfits = c .x .given }
 
-residue-fits : (c : Turn) → SFits w64 (residue (D c) (w c) (x c))
-residue-fits c = sized _ (omega (arith, small c .residue-size))
+  small : Bounds (D c) (w c) (x c)
+  small = bounds (D c) (w c) (x c) (entry c .pre .keeps) w-fits x-fits
 
-place : (c : Turn) → i c < length (c .before .before .before .loop .residues)
-place c = omega (arith, next-at c .within, c .before .before .before .loop .inv .1 .same, entry c .pre .places)
+  next-at : Then c (written c (residue-of c)) (scored c) (summed c) (c .before .before .before .loop .magnitude-sum + natAbs (w c *ℤ x c))
+      (i c - c .before .before .before .loop .zeros + nonzero (w c) (x c))
+  next-at = next (D c) _ _ _ _ (i c) _ _ _ _ (omega arith) (entry c .pre .lengths) (entry c .pre .places) (c .before .before .before .loop .inv .1) small
+
+  score-fits : SFits w64 (scored c)
+  score-fits = sized _ (omega (arith, next-at .score-size, next-at .within, entry c .pre .pairs))
+
+  true-fits : SFits w64 (summed c)
+  true-fits = sized _ (omega (arith, next-at .true-size, next-at .within, entry c .pre .pairs))
+
+  residue-fits : SFits w64 (residue-of c)
+  residue-fits = sized _ (omega (arith, small .residue-size))
+
+  place : i c < length (c .before .before .before .loop .residues)
+  place = omega (arith, next-at .within, c .before .before .before .loop .inv .1 .same, entry c .pre .places)
 
 -- whether the pair has a zero
 test : (c : tie.After-has-zero Inv-loop μ-loop) → c .has-zero .result ≡ eqb (nonzero (w (c .before)) (x (c .before))) 0
@@ -108,12 +120,12 @@ loop-again : tie.Need-loop-again Inv-loop μ-loop
 loop-again c =
     let turn = c .before .before .before .before .before in
     let loop = turn .before .before .before .loop in
-    let none = zero-pair (D turn) (w turn) (x turn) (zero-at (c .before .before .before)) in (
+    let zero = zero-at (c .before .before .before) in
+    let none = zero-pair (D turn) (w turn) (x turn) zero in (
       omega (arith, loop .inv .0),
-      equally (c .before .write .ensures ∙ ap (λ (z : ℤ). set (loop .residues) (i turn) z) (sym (none .residue-is)))
+      equally (c .before .write .ensures ∙ ap (written turn) (sym (none .residue-is)))
           (nothing (toZ w64 (loop .score)) (none .product-is)) (nothing (toZ w64 (loop .true-sum)) (none .truth-is))
-          (sym (ap (λ (z : ℤ). loop .magnitude-sum + natAbs z) (none .truth-is) ∙ add-zero _))
-          (omega (arith, zero-at (c .before .before .before))) (next-at turn),
+          (sym (ap (λ (z : ℤ). loop .magnitude-sum + natAbs z) (none .truth-is) ∙ add-zero _)) (omega (arith, zero)) (next-at turn),
     )
   where
     nothing : {p : ℤ} (sum : ℤ) → p ≡ pos 0 → sum ≡ sum +ℤ p
@@ -126,29 +138,53 @@ Full = tie.After-product-of-sizes Inv-loop μ-loop
 abbrev turn-of : Full → Turn
 turn-of c = c .before .before .before .before
 
-abbrev P : Full → ℤ
-P c = pos (product (D (turn-of c)) (natAbs (w (turn-of c))) (natAbs (x (turn-of c))))
-
 -- a machine number, read back from its bits
 abbrev back : ℤ → ℤ
 back z = toZ w64 (ofZ w64 z)
 
-full-at : (c : Full) → nonzero (w (turn-of c)) (x (turn-of c)) ≡ 0 → ⊥
-full-at c = eqb-false _ 0 (sym (test (c .before .before .before)) ∙ c .before .before .if1 .left)
+abbrev truth : Full → ℤ
+truth c = back (c .before .true-product .result)
 
-truth-is : (c : Full) → c .before .true-product .result ≡ w (turn-of c) *ℤ x (turn-of c)
-truth-is c = simp (toZ-ofZ (w-fits (turn-of c)), toZ-ofZ (x-fits (turn-of c))) at (c .before .true-product .ensures)
+-- the design's product of the sizes
+abbrev P : Full → ℤ
+P c = pos (product (D (turn-of c)) (natAbs (w (turn-of c))) (natAbs (x (turn-of c))))
 
-truth-back : (c : Full) → back (c .before .true-product .result) ≡ w (turn-of c) *ℤ x (turn-of c)
-truth-back c = read-back _ (c .before .true-product .ok) ∙ truth-is c
+module _ (c : Full) where
+  full-at : nonzero (w (turn-of c)) (x (turn-of c)) ≡ 0 → ⊥
+  full-at = eqb-false _ 0 (sym (test (c .before .before .before)) ∙ c .before .before .if1 .left)
 
-sign-is : (c : Full) {b : Bool} → ltZ (back (c .before .true-product .result)) (pos 0) ≡ b → negative (w (turn-of c) *ℤ x (turn-of c)) ≡ b
-sign-is c e = sym (ap negative (truth-is c)) ∙ tested (c .before .true-product .result) (record { sfits = c .before .true-product .ok }) e
+  truth-is : c .before .true-product .result ≡ w (turn-of c) *ℤ x (turn-of c)
+  truth-is = simp (toZ-ofZ (w-fits (turn-of c)), toZ-ofZ (x-fits (turn-of c))) at (c .before .true-product .ensures)
 
-product-back : (c : Full) → back (c .product-of-sizes .result) ≡ P c
-product-back c =
-    read-back _ (c .product-of-sizes .ok)
-    ∙ (simp (toZ-ofZ (w-fits (turn-of c)), toZ-ofZ (x-fits (turn-of c)), entry (turn-of c) .pre .serves) at (c .product-of-sizes .ensures))
+  truth-back : truth c ≡ w (turn-of c) *ℤ x (turn-of c)
+  truth-back = read-back _ (c .before .true-product .ok) ∙ truth-is
+
+  sign-is : {b : Bool} → ltZ (truth c) (pos 0) ≡ b → negative (w (turn-of c) *ℤ x (turn-of c)) ≡ b
+  sign-is e = sym (ap negative truth-is) ∙ tested (c .before .true-product .result) (record { sfits = c .before .true-product .ok }) e
+
+  product-back : back (c .product-of-sizes .result) ≡ P c
+  product-back =
+      read-back _ (c .product-of-sizes .ok)
+      ∙ (simp (toZ-ofZ (w-fits (turn-of c)), toZ-ofZ (x-fits (turn-of c)), entry (turn-of c) .pre .serves) at (c .product-of-sizes .ensures))
+
+  sum-fits : (m : ℕ) → m ≡ natAbs (truth c) → turn-of c .before .before .before .loop .magnitude-sum + m < 2 ^ 64
+  sum-fits m e =
+      omega (arith, next-at (turn-of c) .magnitude-size, next-at (turn-of c) .within, entry (turn-of c) .pre .pairs, e, ap natAbs truth-back)
+
+  -- the next turn goes on with the code's numbers, if its score and its residue are those that are meant
+  on : {after : List ℤ} {score z : ℤ} {m : ℕ} → after ≡ written (turn-of c) (back z) → z ≡ residue-of (turn-of c) → score ≡ scored (turn-of c)
+      → m ≡ natAbs (truth c) → (turn-of c .before .before .before .loop .zeros ≤ i (turn-of c) + 1)
+      × Then (turn-of c) after (back score) (back (toZ w64 (turn-of c .before .before .before .loop .true-sum) +ℤ truth c))
+      (turn-of c .before .before .before .loop .magnitude-sum + m) (i (turn-of c) + 1 - turn-of c .before .before .before .loop .zeros)
+  on ea er es em =
+      let loop = turn-of c .before .before .before .loop in (
+        omega (arith, loop .inv .0),
+        equally (ea ∙ ap (λ (z : ℤ). written (turn-of c) (back z)) er ∙ ap (written (turn-of c)) (toZ-ofZ (residue-fits (turn-of c))))
+            (ap back es ∙ toZ-ofZ (score-fits (turn-of c)))
+            (ap (λ (z : ℤ). back (toZ w64 (loop .true-sum) +ℤ z)) truth-back ∙ toZ-ofZ (true-fits (turn-of c)))
+            (ap (λ (k : ℕ). loop .magnitude-sum + k) (em ∙ ap natAbs truth-back))
+            (omega (arith, loop .inv .0, counted (D (turn-of c)) (w (turn-of c)) (x (turn-of c)) full-at)) (next-at (turn-of c)),
+      )
 
 product-of-sizes-requires : tie.Need-product-of-sizes-requires Inv-loop μ-loop
 product-of-sizes-requires c κs = c .before .before .before .before .before .before .before .pre .known
@@ -156,42 +192,21 @@ product-of-sizes-requires c κs = c .before .before .before .before .before .bef
 add-true-sum : tie.Need-add-true-sum Inv-loop μ-loop
 add-true-sum c = rw (truth-back c) (true-fits (turn-of c))
 
-sum-fits : (c : Full) (m : ℕ) → m ≡ natAbs (back (c .before .true-product .result)) → turn-of c .before .before .before .loop .magnitude-sum + m < 2 ^ 64
-sum-fits c m e =
-    let turn = turn-of c in
-    omega (arith, next-at turn .magnitude-size, next-at turn .within, entry turn .pre .pairs, e, ap natAbs (truth-back c))
-
-on : (c : Full) {after : List ℤ} {score residue' : ℤ} {m : ℕ}
-    → after ≡ set (turn-of c .before .before .before .loop .residues) (i (turn-of c)) (back residue') → residue' ≡ residue (D (turn-of c)) (w (turn-of c)) (x (turn-of c))
-    → score ≡ scored (turn-of c) → m ≡ natAbs (back (c .before .true-product .result))
-    → (turn-of c .before .before .before .loop .zeros ≤ i (turn-of c) + 1)
-    × SoFar (D (turn-of c)) (entry (turn-of c) .args .weights .now) (entry (turn-of c) .args .frame .now) (entry (turn-of c) .args .residues .now)
-    after (i (turn-of c) + 1) (back score) (back (toZ w64 (turn-of c .before .before .before .loop .true-sum) +ℤ back (c .before .true-product .result)))
-    (turn-of c .before .before .before .loop .magnitude-sum + m) (i (turn-of c) + 1 - turn-of c .before .before .before .loop .zeros)
-on c ea er es em =
-    let turn = turn-of c in
-    let loop = turn .before .before .before .loop in (
-      omega (arith, loop .inv .0),
-      equally (ea ∙ ap (λ (z : ℤ). set (loop .residues) (i turn) (back z)) er ∙ ap (λ (z : ℤ). set (loop .residues) (i turn) z) (toZ-ofZ (residue-fits turn)))
-          (ap back es ∙ toZ-ofZ (score-fits turn)) (ap (λ (z : ℤ). back (toZ w64 (loop .true-sum) +ℤ z)) (truth-back c) ∙ toZ-ofZ (true-fits turn))
-          (ap (λ (k : ℕ). loop .magnitude-sum + k) (em ∙ ap natAbs (truth-back c)))
-          (omega (arith, loop .inv .0, counted (D turn) (w turn) (x turn) (full-at c))) (next-at turn),
-    )
-
 -- a true product below 0: the design's is taken off the score
-minus-at : (c : tie.Then2 Inv-loop μ-loop) → signedProduct (D (turn-of (c .before))) (w (turn-of (c .before))) (x (turn-of (c .before))) ≡ negℤ (P (c .before))
-minus-at c = minus-product _ _ _ (full-at (c .before)) (sign-is (c .before) (c .if2 .taken))
+module _ (c : tie.Then2 Inv-loop μ-loop) where
+  minus-at : signedProduct (D (turn-of (c .before))) (w (turn-of (c .before))) (x (turn-of (c .before))) ≡ negℤ (P (c .before))
+  minus-at = minus-product _ _ _ (full-at (c .before)) (sign-is (c .before) (c .if2 .taken))
 
-less-score : (c : tie.Then2 Inv-loop μ-loop) → toZ w64 (turn-of (c .before) .before .before .before .loop .score) -ℤ back (c .before .product-of-sizes .result) ≡ scored (turn-of (c .before))
-less-score c =
-    let score = toZ w64 (turn-of (c .before) .before .before .before .loop .score) in
-    ap (λ (z : ℤ). score -ℤ z) (product-back (c .before)) ∙ ap (λ (z : ℤ). score +ℤ z) (sym (minus-at c))
+  less-score : toZ w64 (turn-of (c .before) .before .before .before .loop .score) -ℤ back (c .before .product-of-sizes .result) ≡ scored (turn-of (c .before))
+  less-score =
+      let score = toZ w64 (turn-of (c .before) .before .before .before .loop .score) in
+      ap (λ (z : ℤ). score -ℤ z) (product-back (c .before)) ∙ ap (λ (z : ℤ). score +ℤ z) (sym minus-at)
 
-more-residue : (c : tie.Then2 Inv-loop μ-loop) → back (c .before .before .true-product .result) +ℤ back (c .before .product-of-sizes .result) ≡ residue (D (turn-of (c .before))) (w (turn-of (c .before))) (x (turn-of (c .before)))
-unfolding residue
-more-residue c =
-    let truth = w (turn-of (c .before)) *ℤ x (turn-of (c .before)) in
-    ap₂ _+ℤ_ (truth-back (c .before)) (sym (negℤ-negℤ _ ∙ sym (product-back (c .before)))) ∙ ap (λ (z : ℤ). truth -ℤ z) (sym (minus-at c))
+  more-residue : truth (c .before) +ℤ back (c .before .product-of-sizes .result) ≡ residue-of (turn-of (c .before))
+  unfolding residue
+  more-residue =
+      let true-one = w (turn-of (c .before)) *ℤ x (turn-of (c .before)) in
+      ap₂ _+ℤ_ (truth-back (c .before)) (product-back (c .before) ∙ sym (negℤ-negℤ (P (c .before)))) ∙ ap (λ (z : ℤ). true-one -ℤ z) (sym minus-at)
 
 sub-score : tie.Need-sub-score Inv-loop μ-loop
 sub-score c = rw (less-score c) (score-fits (turn-of (c .before)))
@@ -211,15 +226,16 @@ loop-again-2 c =
     on (minus .before) (c .before .write2 .ensures) (more-residue minus) (less-score minus) (c .before .before .before .magnitude .ensures)
 
 -- a true product above 0: the design's is added to it
-plus-at : (c : tie.Else2 Inv-loop μ-loop) → signedProduct (D (turn-of (c .before))) (w (turn-of (c .before))) (x (turn-of (c .before))) ≡ P (c .before)
-plus-at c = plus-product _ _ _ (full-at (c .before)) (sign-is (c .before) (c .if2 .left))
+module _ (c : tie.Else2 Inv-loop μ-loop) where
+  plus-at : back (c .before .product-of-sizes .result) ≡ signedProduct (D (turn-of (c .before))) (w (turn-of (c .before))) (x (turn-of (c .before)))
+  plus-at = product-back (c .before) ∙ sym (plus-product _ _ _ (full-at (c .before)) (sign-is (c .before) (c .if2 .left)))
 
-more-score : (c : tie.Else2 Inv-loop μ-loop) → toZ w64 (turn-of (c .before) .before .before .before .loop .score) +ℤ back (c .before .product-of-sizes .result) ≡ scored (turn-of (c .before))
-more-score c = ap (λ (z : ℤ). toZ w64 (turn-of (c .before) .before .before .before .loop .score) +ℤ z) (product-back (c .before) ∙ sym (plus-at c))
+  more-score : toZ w64 (turn-of (c .before) .before .before .before .loop .score) +ℤ back (c .before .product-of-sizes .result) ≡ scored (turn-of (c .before))
+  more-score = ap (λ (z : ℤ). toZ w64 (turn-of (c .before) .before .before .before .loop .score) +ℤ z) plus-at
 
-less-residue : (c : tie.Else2 Inv-loop μ-loop) → back (c .before .before .true-product .result) -ℤ back (c .before .product-of-sizes .result) ≡ residue (D (turn-of (c .before))) (w (turn-of (c .before))) (x (turn-of (c .before)))
-unfolding residue
-less-residue c = ap₂ _-ℤ_ (truth-back (c .before)) (product-back (c .before) ∙ sym (plus-at c))
+  less-residue : truth (c .before) -ℤ back (c .before .product-of-sizes .result) ≡ residue-of (turn-of (c .before))
+  unfolding residue
+  less-residue = ap₂ _-ℤ_ (truth-back (c .before)) plus-at
 
 add-score : tie.Need-add-score Inv-loop μ-loop
 add-score c = rw (more-score c) (score-fits (turn-of (c .before)))
