@@ -160,7 +160,7 @@ def inputs():
 
 
 def main():
-    program, runs = sys.argv[1], 0
+    program, runs, longest = sys.argv[1], 0, 0
     for what, pieces in inputs():
         output, status = run(program, pieces)
         wanted = expected(b''.join(pieces)).encode()
@@ -172,7 +172,8 @@ def main():
                     break
             return 1
         runs += 1
-    print(f'bench: {runs} runs, 0 wrong')
+        longest = max(longest, len(output))
+    print(f'bench: {runs} runs, 0 wrong; the longest output has {longest} bytes')
     return 0
 
 
