@@ -10,7 +10,7 @@ use lib.Pow.{pow-pos, pow-add}
 use Rattle.designs.specs.Designs.{log2, rest, unlessZero, byMitchell, mitchell, formula, product}
 use Rattle.designs.specs.Codes.{code, scaledProduct, byCodes}
 use Rattle.designs.proofs.Cases.{either-lt}
-use Rattle.designs.proofs.Parts.{rest-lt, log2-below}
+use Rattle.designs.proofs.Parts.{rest-lt, log2-below, up-to}
 use Rattle.designs.proofs.Fold.{carried, carried-scale}
 use Rattle.designs.proofs.Zeros.{product-is}
 
@@ -27,15 +27,12 @@ scaled-carried h q u l =
     (λ g. ap (scaledProduct h) (omega arith) ∙ scaled-at h (q + 1) (u - 2 ^ h) (omega arith)
     ∙ simp (le-ltb u (2 ^ h) g, add-sub-of-le g, pow-add 2 q 1) (omega arith))
 
-power-split : (h k : ℕ) → k ≤ h → 2 ^ k * 2 ^ (h - k) ≡ 2 ^ h
-power-split h k l = sym (pow-add 2 k (h - k)) ∙ ap (λ (j : ℕ). 2 ^ j) (add-sub-of-le l)
-
 -- the fraction of a code, a × 2^(h−k)
 abbrev fraction : ℕ → ℕ → ℕ
 fraction h v = rest v * 2 ^ (h - log2 v)
 
 fraction-lt : (h v : ℕ) → log2 v ≤ h → fraction h v < 2 ^ h
-fraction-lt h v l = omega (arith, power-split h (log2 v) l, mul-le-mul-right (2 ^ (h - log2 v)) (rest-lt v), pow-pos (h - log2 v))
+fraction-lt h v l = omega (arith, up-to h (log2 v) l, mul-le-mul-right (2 ^ (h - log2 v)) (rest-lt v), pow-pos (h - log2 v))
 
 log2-le-bits : (h v : ℕ) → v < 2 ^ suc h → log2 v ≤ h
 unfolding log2
@@ -64,8 +61,8 @@ module _ (h A B : ℕ) (ha : A < 2 ^ suc h) (hb : B < 2 ^ suc h) where
       rw (pow-add 2 (log2 A) (log2 B))
       (omega (
         arith,
-        ap (λ (x : ℕ). x * (rest A * 2 ^ log2 B)) (power-split h (log2 A) (log2-le-bits h A ha)),
-        ap (λ (x : ℕ). x * (rest B * 2 ^ log2 A)) (power-split h (log2 B) (log2-le-bits h B hb)),
+        ap (λ (x : ℕ). x * (rest A * 2 ^ log2 B)) (up-to h (log2 A) (log2-le-bits h A ha)),
+        ap (λ (x : ℕ). x * (rest B * 2 ^ log2 A)) (up-to h (log2 B) (log2-le-bits h B hb)),
       ))
 
   scaled : scaledProduct h (code h A + code h B) ≡ 2 ^ h * byMitchell A B

@@ -2,14 +2,14 @@
 -- of both is folded as in design 1; and × 2^e / 2^t is a shift up that t alone fixes and a shift down. Assumes nothing.
 use mathlib.Core.Path.{_≡_, refl, sym, ap, ap₂, _∙_}
 use Prim.Native.Nat.{ℕ, _+_, _-_, _*_, _/_, _^_, _≤_, _<_}
-use native.Mathlib.Nat.{add-sub-of-le, add-mul-div-right, div-lt-iff-lt-mul, mul-comm, mul-div-mul-left, mul-le-mul-right}
+use native.Mathlib.Nat.{add-mul-div-right, div-lt-iff-lt-mul, mul-comm, mul-div-mul-left, mul-le-mul-right}
 use native.Mathlib.Omega.{arith}
 use mathlib.Core.Bool.{Bool, true, false, cond}
 use lib.Dec.{ltb}
 use lib.Pow.{pow-add, pow-pos}
 use Rattle.designs.specs.Designs.{log2, rest, kept, byTruncation}
 use Rattle.designs.proofs.Fold.{fold, fold-is}
-use Rattle.designs.proofs.Parts.{parts, rest-lt}
+use Rattle.designs.proofs.Parts.{parts, rest-lt, up-to}
 
 -- an operand shifted up by t and down by its k
 pub shifted : (t A : ℕ) → 0 < A → A * 2 ^ t / 2 ^ log2 A ≡ 2 ^ t + kept t A
@@ -49,7 +49,7 @@ total-lt t A B = omega (arith, kept-lt t A, kept-lt t B)
 -- × 2^e / 2^t as a shift up, to where 2^t stands at 2^h, and one down
 pub shift-down : (h e t x : ℕ) → e ≤ h → t ≤ h → x * 2 ^ (h - t) / 2 ^ (h - e) ≡ 2 ^ e * x / 2 ^ t
 shift-down h e t x he ht =
-    sym (mul-div-mul-left (x * P) Q (pow-pos e)) ∙ ap₂ _/_ (swap (2 ^ e)) (sym (split e he) ∙ split t ht ∙ mul-comm (2 ^ t) P)
+    sym (mul-div-mul-left (x * P) Q (pow-pos e)) ∙ ap₂ _/_ (swap (2 ^ e)) (mul-comm (2 ^ e) Q ∙ sym (up-to h e he) ∙ up-to h t ht)
     ∙ mul-div-mul-left (2 ^ e * x) (2 ^ t) (pow-pos (h - t))
   where
     P : ℕ
@@ -60,6 +60,3 @@ shift-down h e t x he ht =
 
     swap : (E : ℕ) → E * (x * P) ≡ P * (E * x)
     swap E = omega arith
-
-    split : (i : ℕ) → i ≤ h → 2 ^ h ≡ 2 ^ i * 2 ^ (h - i)
-    split i l = ap (λ (j : ℕ). 2 ^ j) (sym (add-sub-of-le l)) ∙ pow-add 2 i (h - i)

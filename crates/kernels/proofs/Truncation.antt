@@ -9,12 +9,9 @@ use lib.Bits.{bitAnd, and-high}
 use lib.Pow.{pow-add, pow-mono, pow-pos}
 use Rattle.designs.specs.Designs.{log2, kept, truncated, product, formula}
 use Rattle.designs.proofs.Fold.{fold, fold-lt, fold-scale}
+use Rattle.designs.proofs.Parts.{up-to}
 use Rattle.designs.proofs.Truncated.{shifted, shift-down, total, total-lt, truncation-at}
 use Rattle.designs.proofs.Zeros.{product-is}
-
--- 2^h, as 2^i and what it takes to reach it
-up-to : (h i : ℕ) → i ≤ h → 2 ^ h ≡ 2 ^ (h - i) * 2 ^ i
-up-to h i l = ap (λ (x : ℕ). 2 ^ x) (sym (sub-add-cancel l)) ∙ pow-add 2 (h - i) i
 
 -- a number of w bits without its u lowest bits
 masked : (w n u : ℕ) → n < 2 ^ w → u ≤ w → bitAnd n (2 ^ w - 1 - (2 ^ u - 1)) ≡ n / 2 ^ u * 2 ^ u

@@ -6,7 +6,7 @@ use native.Mathlib.Nat.{mul-le-mul, mul-pos}
 use native.Mathlib.Omega.{arith}
 use mathlib.Core.Bool.{Bool, true, false, false≢true}
 use lib.Ieee.{unlike}
-use lib.IntN.{ℤ, pos, negℤ, natAbs, _*ℤ_}
+use lib.IntN.{ℤ, pos, negℤ, natAbs, _+ℤ_, _-ℤ_, _*ℤ_, negℤ-negℤ}
 use mir.Syntax.{w16}
 use mir.Val.{SFits}
 use Rattle.designs.specs.Designs.{Design, unlessZero, product}
@@ -101,11 +101,32 @@ module _ (D : Design) (w x : ℤ) where
     pub counted : nonzero w x ≡ 1
     counted = some (natAbs w) (natAbs x) full .1
 
-    -- the design's product has the sign of the true one
-    pub minus-product : negative (w *ℤ x) ≡ true → signedProduct D w x ≡ negℤ (pos (product D (natAbs w) (natAbs x)))
-    unfolding signedProduct
-    minus-product e = rw (minus-sign sign (natAbs w * natAbs x) (rw (true-is w x) at e)) refl
+    -- the design's product of the sizes, which gets the sign of the true product
+    abbrev P : ℤ
+    P = pos (product D (natAbs w) (natAbs x))
 
-    pub plus-product : negative (w *ℤ x) ≡ false → signedProduct D w x ≡ pos (product D (natAbs w) (natAbs x))
-    unfolding signedProduct
-    plus-product e = rw (plus-sign sign (natAbs w * natAbs x) (some (natAbs w) (natAbs x) full .0) (rw (true-is w x) at e)) refl
+    -- below 0 it is taken off a score, and added for the residue
+    module _ (minus : negative (w *ℤ x) ≡ true) where
+      minus-is : signedProduct D w x ≡ negℤ P
+      unfolding signedProduct
+      minus-is = rw (minus-sign sign (natAbs w * natAbs x) (rw (true-is w x) at minus)) refl
+
+      pub minus-score : (s : ℤ) → s -ℤ P ≡ s +ℤ signedProduct D w x
+      minus-score s = ap (λ (z : ℤ). s +ℤ z) (sym minus-is)
+
+      pub minus-residue : w *ℤ x +ℤ P ≡ residue D w x
+      unfolding residue
+      minus-residue = ap (λ (z : ℤ). w *ℤ x +ℤ z) (sym (negℤ-negℤ P)) ∙ ap (λ (z : ℤ). w *ℤ x -ℤ z) (sym minus-is)
+
+    -- above 0 it is added, and taken off
+    module _ (plus : negative (w *ℤ x) ≡ false) where
+      plus-is : signedProduct D w x ≡ P
+      unfolding signedProduct
+      plus-is = rw (plus-sign sign (natAbs w * natAbs x) (some (natAbs w) (natAbs x) full .0) (rw (true-is w x) at plus)) refl
+
+      pub plus-score : (s : ℤ) → s +ℤ P ≡ s +ℤ signedProduct D w x
+      plus-score s = ap (λ (z : ℤ). s +ℤ z) (sym plus-is)
+
+      pub plus-residue : w *ℤ x -ℤ P ≡ residue D w x
+      unfolding residue
+      plus-residue = ap (λ (z : ℤ). w *ℤ x -ℤ z) (sym plus-is)

@@ -10,7 +10,7 @@ use Prim.Native.Nat.{ℕ, _+_, _-_, _^_, _≤_, _<_}
 use native.Mathlib.Nat.{add-zero}
 use native.Mathlib.Omega.{arith}
 use lib.Dec.{eqb}
-use lib.IntN.{ℤ, pos, negℤ, natAbs, _+ℤ_, _-ℤ_, _*ℤ_, +ℤ-idr, negℤ-negℤ}
+use lib.IntN.{ℤ, pos, natAbs, _+ℤ_, _-ℤ_, _*ℤ_, +ℤ-idr}
 use lib.ListN.{length, getD, set}
 use lib.Signed.{ltZ}
 use mir.Syntax.{w16, w64}
@@ -21,7 +21,7 @@ use Rattle.designs.specs.Products.{designOf}
 use Rattle.designs.specs.Rows.{nonzero}
 use Rattle.designs.specs.Signs.{negative, signedProduct, residue}
 use Rattle.products.proofs.Integers.{read-back, sized, tested}
-use Rattle.rows.proofs.Pair.{Bounds, bounds, counted, minus-product, plus-product, zero-pair}
+use Rattle.rows.proofs.Pair.{Bounds, bounds, counted, minus-residue, minus-score, plus-residue, plus-score, zero-pair}
 use Rattle.rows.proofs.SoFar.{SoFar, start, next, equally, finished, finished-residues}
 use Rattle.rows.proofs.sums.accumulate.Statement.{statement}
 use Rattle.rows.proofs.sums.accumulate.Tie as tie
@@ -194,19 +194,18 @@ add-true-sum c = rw (truth-back c) (true-fits (turn-of c))
 
 -- a true product below 0: the design's is taken off the score
 module _ (c : tie.Then2 Inv-loop μ-loop) where
-  minus-at : signedProduct (D (turn-of (c .before))) (w (turn-of (c .before))) (x (turn-of (c .before))) ≡ negℤ (P (c .before))
-  minus-at = minus-product _ _ _ (full-at (c .before)) (sign-is (c .before) (c .if2 .taken))
-
   less-score : toZ w64 (turn-of (c .before) .before .before .before .loop .score) -ℤ back (c .before .product-of-sizes .result) ≡ scored (turn-of (c .before))
   less-score =
-      let score = toZ w64 (turn-of (c .before) .before .before .before .loop .score) in
-      ap (λ (z : ℤ). score -ℤ z) (product-back (c .before)) ∙ ap (λ (z : ℤ). score +ℤ z) (sym minus-at)
+      let turn = turn-of (c .before) in
+      let score = toZ w64 (turn .before .before .before .loop .score) in
+      ap (λ (z : ℤ). score -ℤ z) (product-back (c .before))
+      ∙ minus-score (D turn) (w turn) (x turn) (full-at (c .before)) (sign-is (c .before) (c .if2 .taken)) score
 
   more-residue : truth (c .before) +ℤ back (c .before .product-of-sizes .result) ≡ residue-of (turn-of (c .before))
-  unfolding residue
   more-residue =
-      let true-one = w (turn-of (c .before)) *ℤ x (turn-of (c .before)) in
-      ap₂ _+ℤ_ (truth-back (c .before)) (product-back (c .before) ∙ sym (negℤ-negℤ (P (c .before)))) ∙ ap (λ (z : ℤ). true-one -ℤ z) (sym minus-at)
+      let turn = turn-of (c .before) in
+      ap₂ _+ℤ_ (truth-back (c .before)) (product-back (c .before))
+      ∙ minus-residue (D turn) (w turn) (x turn) (full-at (c .before)) (sign-is (c .before) (c .if2 .taken))
 
 sub-score : tie.Need-sub-score Inv-loop μ-loop
 sub-score c = rw (less-score c) (score-fits (turn-of (c .before)))
@@ -227,15 +226,18 @@ loop-again-2 c =
 
 -- a true product above 0: the design's is added to it
 module _ (c : tie.Else2 Inv-loop μ-loop) where
-  plus-at : back (c .before .product-of-sizes .result) ≡ signedProduct (D (turn-of (c .before))) (w (turn-of (c .before))) (x (turn-of (c .before)))
-  plus-at = product-back (c .before) ∙ sym (plus-product _ _ _ (full-at (c .before)) (sign-is (c .before) (c .if2 .left)))
-
   more-score : toZ w64 (turn-of (c .before) .before .before .before .loop .score) +ℤ back (c .before .product-of-sizes .result) ≡ scored (turn-of (c .before))
-  more-score = ap (λ (z : ℤ). toZ w64 (turn-of (c .before) .before .before .before .loop .score) +ℤ z) plus-at
+  more-score =
+      let turn = turn-of (c .before) in
+      let score = toZ w64 (turn .before .before .before .loop .score) in
+      ap (λ (z : ℤ). score +ℤ z) (product-back (c .before))
+      ∙ plus-score (D turn) (w turn) (x turn) (full-at (c .before)) (sign-is (c .before) (c .if2 .left)) score
 
   less-residue : truth (c .before) -ℤ back (c .before .product-of-sizes .result) ≡ residue-of (turn-of (c .before))
-  unfolding residue
-  less-residue = ap₂ _-ℤ_ (truth-back (c .before)) plus-at
+  less-residue =
+      let turn = turn-of (c .before) in
+      ap₂ _-ℤ_ (truth-back (c .before)) (product-back (c .before))
+      ∙ plus-residue (D turn) (w turn) (x turn) (full-at (c .before)) (sign-is (c .before) (c .if2 .left))
 
 add-score : tie.Need-add-score Inv-loop μ-loop
 add-score c = rw (more-score c) (score-fits (turn-of (c .before)))
