@@ -70,6 +70,13 @@ KeepsBit nearest = Unit {0}
 KeepsBit (staged s) = Unit {0}
 KeepsBit (truncated t) = 0 < t
 
+-- and at most n
+abbrev pub KeepsAtMost : ℕ → Design → Type 0
+KeepsAtMost n mitchell = Unit {0}
+KeepsAtMost n nearest = Unit {0}
+KeepsAtMost n (staged s) = Unit {0}
+KeepsAtMost n (truncated t) = t ≤ n
+
 module _ (v : ℕ) where
   power-log2 : log2 (2 ^ v) ≡ v
   power-log2 = log2-is (2 ^ v) v (omega arith) (pow-lt (omega arith))

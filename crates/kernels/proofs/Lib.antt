@@ -3,3 +3,4 @@ pub mod Carry
 pub mod Wrapping
 pub mod Stages
 pub mod Truncation
+pub mod Served

@@ -7,7 +7,7 @@ use mir.Syntax.{w64}
 use mir.Val.{SFits}
 use Rattle.designs.proofs.Cases.{by-lt}
 use Rattle.designs.proofs.Differences.{minus, is-neg}
-use Rattle.products.proofs.Integers.{sized}
+use Rattle.signs.proofs.Integers.{sized}
 use Rattle.readings.specs.Records.{signed16}
 
 module _ (n : ℕ) (small : n < 65536) where

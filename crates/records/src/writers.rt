@@ -46,7 +46,7 @@ pub(crate) fn put_signed(out: &mut [u8], at: usize, v: i64) -> usize
     requires { ⌜ Room (now out) at (signedDecimal v) ⌝ }
     ensures { λ r. ⌜ Put (now (out .entry)) at (signedDecimal v) (now (out .exit)) r ⌝ }
 {
-    let size = products::magnitude(v);
+    let size = signs::magnitude(v);
     if v < 0 {
         let p = put(out, at, b'-');
         put_decimal(out, p, size)

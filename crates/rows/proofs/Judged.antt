@@ -20,8 +20,9 @@ use Rattle.designs.specs.Scoring.{rowRefusals, rowRefusal, rowOutcome, rowWritt
 use Rattle.designs.specs.Demand.{Demand}
 use Rattle.designs.proofs.Demand.{demand}
 use Rattle.designs.proofs.Prefixes.{pairwise-length}
-use Rattle.products.proofs.Judged.{Accepted, accept, refused-is}
-use Rattle.products.specs.Answers.{settingRefusal}
+use Rattle.kernels.proofs.Served.{serves}
+use Rattle.refusals.specs.Settings.{settingRefusal}
+use Rattle.refusals.proofs.Judged.{Accepted, accept, refused-is}
 use Rattle.rows.specs.Answers.{reportOf, Ready, Scoring, Small, Summed}
 use Rattle.rows.specs.declared.Scored.the-variants as S
 use Rattle.rows.specs.declared.RowReport.{RowReport}
@@ -60,7 +61,7 @@ module _ (design setting : ℕ) (ws fs before : List ℤ) where
   ready e =
       record {
         known = settled .known;
-        serves = settled .serves;
+        serves = serves _ (settled .few);
         keeps = settled .keeps;
         lengths = eqb-true (length ws) (length fs) (tests .lengths);
         pairs = ltb-false 4096 (length ws) (tests .pairs);

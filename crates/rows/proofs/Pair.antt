@@ -16,7 +16,7 @@ use Rattle.designs.proofs.Distance.{dist, within-dist}
 use Rattle.designs.proofs.Sizes.{sign-dist, size-sign, size-true, true-is}
 use Rattle.designs.proofs.Widths.{KeepsBit, size-lt}
 use Rattle.designs.proofs.Zeros.{zero-product}
-use Rattle.products.proofs.Integers.{size16}
+use Rattle.signs.proofs.Integers.{size16}
 
 -- the largest size of a product or a residue
 abbrev pub most : ℕ

@@ -36,7 +36,7 @@ pub(crate) fn product_of_sizes(design: u32, setting: u32, w: i16, x: i16) -> i64
 fn size(x: i16) -> u32
     ensures { λ r. ⌜ r ≡ natAbs x ⌝ }
 {
-    products::magnitude(x as i64) as u32
+    signs::magnitude(x as i64) as u32
 }
 
 // As `kernels::product_of`, which is compiled once for all its callers and so would be a call for each pair. Here each kernel is a part

@@ -37,11 +37,11 @@ pub(crate) fn accumulate(
             // both products have the sign of the true one
             if truth < 0 {
                 score -= product;
-                magnitude_sum += products::magnitude(truth);
+                magnitude_sum += signs::magnitude(truth);
                 write(residues, at, truth + product);
             } else {
                 score += product;
-                magnitude_sum += products::magnitude(truth);
+                magnitude_sum += signs::magnitude(truth);
                 write(residues, at, truth - product);
             }
         }

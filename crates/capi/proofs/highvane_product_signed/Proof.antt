@@ -7,7 +7,7 @@ use Rattle.designs.specs.Outcomes.{accepted}
 use Rattle.designs.specs.Products.{signedOutcome}
 use Rattle.products.specs.declared.Signed.{Signed}
 use Rattle.products.specs.Answers.{signedGiven}
-use Rattle.products.proofs.Integers.{read-back}
+use Rattle.signs.proofs.Integers.{read-back}
 use Rattle.capi.specs.Structs.{signedStruct}
 use Rattle.capi.proofs.highvane_product_signed.Statement.{statement}
 use Rattle.capi.proofs.highvane_product_signed.Tie as tie

@@ -7,7 +7,7 @@ use mir.Syntax.{w64}
 use mir.Val.{toZ, ofZ}
 use Prim.Native.Nat.{_<_, _^_}
 use lib.IntN.{ℤ, natAbs}
-use Rattle.products.proofs.Integers.{sized}
+use Rattle.signs.proofs.Integers.{sized}
 use Rattle.rows.specs.declared.Scored.{Scored}
 use Rattle.rows.specs.Answers.{given, reportOf}
 use Rattle.capi.specs.Structs.{reportStruct}

@@ -9,7 +9,7 @@ use Rattle.designs.specs.Designs.{product}
 use Rattle.designs.specs.Signs.{signedProduct, withSign}
 use Rattle.designs.specs.Products.{designOf}
 use Rattle.kernels.specs.Steps.{served}
-use Rattle.products.proofs.Integers.{read-back}
+use Rattle.signs.proofs.Integers.{read-back}
 use native.Mathlib.Omega.{arith}
 use Rattle.products.proofs.signed_of.Statement.{statement}
 use Rattle.products.proofs.signed_of.Tie as tie

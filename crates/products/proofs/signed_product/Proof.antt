@@ -9,14 +9,20 @@ use Rattle.designs.specs.Signs.{signedProduct}
 use Rattle.designs.specs.Outcomes.{accepted}
 use Rattle.designs.specs.Products.{designOf, insideSigned, signedOutcome}
 use Rattle.designs.proofs.Widths.{size-lt}
-use Rattle.products.proofs.Integers.{read-back}
-use Rattle.products.proofs.Judged.{Accepted, accept, by-setting, by-operand, by-value, fails, holds, signed-size}
+use Rattle.signs.proofs.Integers.{read-back}
+use Rattle.kernels.proofs.Served.{serves}
+use Rattle.refusals.proofs.Tests.{fails, holds}
+use Rattle.refusals.proofs.Judged.{Accepted, accept, by-setting, by-operand, by-value}
+use Rattle.products.proofs.Sizes.{signed-size}
 use Rattle.products.proofs.signed_product.Statement.{statement}
 use Rattle.products.proofs.signed_product.Tie as tie
 
--- what the definition gives for an accepted input, and its tests of the operands
+-- the design, what the definition gives for an accepted input, and its tests of the operands
+abbrev asked : tie.Start → Design
+asked c = designOf (c .args .design) (c .args .setting)
+
 abbrev value : tie.Start → ℤ
-value c = signedProduct (designOf (c .args .design) (c .args .setting)) (c .args .a) (c .args .b)
+value c = signedProduct (asked c) (c .args .a) (c .args .b)
 
 abbrev first : tie.Start → Bool
 first c = insideSigned (c .args .width) (c .args .a)
@@ -25,7 +31,7 @@ abbrev second : tie.Start → Bool
 second c = insideSigned (c .args .width) (c .args .b)
 
 settled : (c : tie.Else1) → Accepted (c .before .before .args .design) (c .before .before .args .width) (c .before .before .args .setting)
-settled c = accept _ _ _ (sym (c .before .refusal-of .ensures) ∙ c .if1 .left)
+settled c = accept _ _ _ (sym (c .before .of-setting .ensures) ∙ c .if1 .left)
 
 -- the tests of the operands, which are read back from their bits
 first-test : (c : tie.After-inside-signed) → c .inside-signed .result ≡ first (c .before .before .before)
@@ -47,7 +53,7 @@ returns : tie.Need-returns
 unfolding signedOutcome
 returns c =
     let start = c .before .before in
-    by-setting _ _ _ (value start) (first start) (second start) (c .before .refusal-of .ensures) (c .if1 .taken)
+    by-setting _ _ _ (value start) (first start) (second start) (c .before .of-setting .ensures) (c .if1 .taken)
 
 inside-signed-requires : tie.Need-inside-signed-requires
 inside-signed-requires c κs = (settled c .low, settled c .high)
@@ -74,7 +80,7 @@ signed-of-requires c κs =
     let setting = settled (c .before .before .before .before) in
     let a-size = signed-size (start .args .width) (start .args .a) (setting .high) (first-holds (c .before .before)) in
     let b-size = signed-size (start .args .width) (start .args .b) (setting .high) (second-holds c) in
-    rw (toZ-ofZ (start .fits .a), toZ-ofZ (start .fits .b), setting .serves)
+    rw (toZ-ofZ (start .fits .a), toZ-ofZ (start .fits .b), serves (asked start) (setting .few))
     (record { first = a-size; second = b-size; fits = size-lt _ (setting .keeps) 31 _ _ a-size b-size })
 
 returns-4 : tie.Need-returns-4
@@ -86,7 +92,7 @@ returns-4 c =
     ap accepted
     (read-back (c .signed-of .result) (c .signed-of .ok)
     ∙ (simp (toZ-ofZ (start .fits .a), toZ-ofZ (start .fits .b)) at (c .signed-of .ensures))
-    ∙ ap (λ (D : Design). signedProduct D (start .args .a) (start .args .b)) (setting .serves))
+    ∙ ap (λ (D : Design). signedProduct D (start .args .a) (start .args .b)) (serves (asked start) (setting .few)))
     ∙ by-value _ _ _ (value start) (first start) (second start) setting (first-holds (inside .before .before)) (second-holds inside)
 
 pub signed-product-spec : {M : Type 1} → statement M

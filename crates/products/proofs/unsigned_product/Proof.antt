@@ -6,13 +6,19 @@ use mathlib.Core.Bool.{Bool, true}
 use Rattle.designs.specs.Designs.{Design, product}
 use Rattle.designs.specs.Outcomes.{accepted}
 use Rattle.designs.specs.Products.{designOf, insideUnsigned, unsignedOutcome}
-use Rattle.products.proofs.Judged.{Accepted, accept, by-setting, by-operand, by-value, fails, holds, unsigned-size}
+use Rattle.kernels.proofs.Served.{serves}
+use Rattle.refusals.proofs.Tests.{fails, holds}
+use Rattle.refusals.proofs.Judged.{Accepted, accept, by-setting, by-operand, by-value}
+use Rattle.products.proofs.Sizes.{unsigned-size}
 use Rattle.products.proofs.unsigned_product.Statement.{statement}
 use Rattle.products.proofs.unsigned_product.Tie as tie
 
--- what the definition gives for an accepted input, and its tests of the operands
+-- the design, what the definition gives for an accepted input, and its tests of the operands
+abbrev asked : tie.Start → Design
+asked c = designOf (c .args .design) (c .args .setting)
+
 abbrev value : tie.Start → ℕ
-value c = product (designOf (c .args .design) (c .args .setting)) (c .args .a) (c .args .b)
+value c = product (asked c) (c .args .a) (c .args .b)
 
 abbrev first : tie.Start → Bool
 first c = insideUnsigned (c .args .width) (c .args .a)
@@ -21,7 +27,7 @@ abbrev second : tie.Start → Bool
 second c = insideUnsigned (c .args .width) (c .args .b)
 
 settled : (c : tie.Else1) → Accepted (c .before .before .args .design) (c .before .before .args .width) (c .before .before .args .setting)
-settled c = accept _ _ _ (sym (c .before .refusal-of .ensures) ∙ c .if1 .left)
+settled c = accept _ _ _ (sym (c .before .of-setting .ensures) ∙ c .if1 .left)
 
 -- both operands are inside the width
 first-holds : (c : tie.Else2) → first (c .before .before .before .before) ≡ true
@@ -34,7 +40,7 @@ returns : tie.Need-returns
 unfolding unsignedOutcome
 returns c =
     let start = c .before .before in
-    by-setting _ _ _ (value start) (first start) (second start) (c .before .refusal-of .ensures) (c .if1 .taken)
+    by-setting _ _ _ (value start) (first start) (second start) (c .before .of-setting .ensures) (c .if1 .taken)
 
 inside-unsigned-requires : tie.Need-inside-unsigned-requires
 inside-unsigned-requires c κs = settled c .high
@@ -67,7 +73,7 @@ returns-4 c =
     let inside = c .before in
     let start = inside .before .before .before .before .before .before in
     let setting = settled (inside .before .before .before .before) in
-    ap accepted (c .product-of .ensures ∙ ap (λ (D : Design). product D (start .args .a) (start .args .b)) (setting .serves))
+    ap accepted (c .product-of .ensures ∙ ap (λ (D : Design). product D (start .args .a) (start .args .b)) (serves (asked start) (setting .few)))
     ∙ by-value _ _ _ (value start) (first start) (second start) setting (first-holds (inside .before .before)) (second-holds inside)
 
 pub unsigned-product-spec : {M : Type 1} → statement M

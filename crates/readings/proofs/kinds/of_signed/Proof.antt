@@ -3,7 +3,7 @@ use borrow.Author.Needs.{needs}
 use mathlib.Core.Path.{sym, ap, _∙_}
 use Rattle.designs.specs.Outcomes.{accepted}
 use Rattle.products.specs.Answers.{signedGiven}
-use Rattle.products.proofs.Integers.{read-back}
+use Rattle.signs.proofs.Integers.{read-back}
 use Rattle.readings.proofs.kinds.of_signed.Statement.{statement}
 use Rattle.readings.proofs.kinds.of_signed.Tie as tie
 

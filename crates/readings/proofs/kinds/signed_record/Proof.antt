@@ -2,7 +2,7 @@
 -- Assumes nothing.
 use borrow.Author.Needs.{needs}
 use mathlib.Core.Path.{_∙_}
-use Rattle.products.proofs.Integers.{read-back}
+use Rattle.signs.proofs.Integers.{read-back}
 use Rattle.readings.specs.Records.{signedRecord}
 use Rattle.readings.proofs.kinds.signed_record.Statement.{statement}
 use Rattle.readings.proofs.kinds.signed_record.Tie as tie

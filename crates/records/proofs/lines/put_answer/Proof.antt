@@ -7,7 +7,7 @@ use denote.Ref.{now}
 use lib.IntN.{ℤ}
 use mir.Syntax.{w64}
 use mir.Val.{toZ, ofZ}
-use Rattle.products.proofs.Integers.{read-back}
+use Rattle.signs.proofs.Integers.{read-back}
 use Rattle.text.specs.Text.{Room, decimal, signedDecimal}
 use Rattle.text.proofs.Writing.{then, room, fit}
 use Rattle.records.specs.Lines.{outcomeText, okText, noText}

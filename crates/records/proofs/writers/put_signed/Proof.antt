@@ -7,7 +7,7 @@ use mathlib.Core.List.{List, [], _∷_, _++_}
 use denote.Ref.{now}
 use lib.IntN.{natAbs}
 use mir.Facts.{toZ-ofZ}
-use Rattle.products.proofs.Integers.{tested}
+use Rattle.signs.proofs.Integers.{tested}
 use Rattle.text.specs.Text.{Room, decimal, signedDecimal}
 use Rattle.text.proofs.Decimals.{with-minus, without-minus}
 use Rattle.text.proofs.Writing.{then, room, fit}

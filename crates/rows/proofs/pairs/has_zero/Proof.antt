@@ -17,7 +17,10 @@ second (suc A) zero h = refl
 second (suc A) (suc B) h = ne-eqb (suc B) 0 (λ e. omega arith)
 
 first-size : (c : tie.After-size) → c .size .result ≡ natAbs (c .before .args .w)
-first-size c = rw (toZ-ofZ (c .before .fits .w)) at (c .size .ensures)
+first-size c = c .size .ensures ∙ ap natAbs (toZ-ofZ (c .before .fits .w))
+
+second-size : (c : tie.After-size2) → c .size2 .result ≡ natAbs (c .before .before .before .args .x)
+second-size c = c .size2 .ensures ∙ ap natAbs (toZ-ofZ (c .before .before .before .fits .x))
 
 returns : tie.Need-returns
 returns c = rw (sym (first-size (c .before)) ∙ c .if1 .taken) refl
@@ -25,7 +28,7 @@ returns c = rw (sym (first-size (c .before)) ∙ c .if1 .taken) refl
 returns-2 : tie.Need-returns-2
 returns-2 c =
     let start = c .before .before .before in
-    ap (λ (n : ℕ). eqb n 0) (rw (toZ-ofZ (start .fits .x)) at (c .size2 .ensures))
+    ap (λ (n : ℕ). eqb n 0) (second-size c)
     ∙ second (natAbs (start .args .w)) (natAbs (start .args .x)) (λ e. c .before .if1 .left (first-size (c .before .before) ∙ e))
 
 pub has-zero-spec : {M : Type 1} → statement M

@@ -12,7 +12,7 @@ use Rattle.designs.specs.Designs.{product}
 use Rattle.designs.specs.Products.{designOf}
 use Rattle.designs.proofs.Widths.{product-lt}
 use Rattle.kernels.specs.Steps.{served}
-use Rattle.products.proofs.Integers.{size16}
+use Rattle.signs.proofs.Integers.{size16}
 use Rattle.rows.proofs.pairs.product_of_sizes.Statement.{statement}
 use Rattle.rows.proofs.pairs.product_of_sizes.Tie as tie
 

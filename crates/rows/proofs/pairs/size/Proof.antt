@@ -3,7 +3,7 @@ use borrow.Author.Needs.{needs}
 use mathlib.Core.Path.{_≡_}
 use lib.IntN.{natAbs}
 use native.Mathlib.Omega.{arith}
-use Rattle.products.proofs.Integers.{size16, widened, widens}
+use Rattle.signs.proofs.Integers.{size16, widened, widens}
 use Rattle.rows.proofs.pairs.size.Statement.{statement}
 use Rattle.rows.proofs.pairs.size.Tie as tie
 

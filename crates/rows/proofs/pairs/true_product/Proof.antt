@@ -5,7 +5,7 @@ use mir.Syntax.{w64}
 use mir.Val.{SFits}
 use mir.Facts.{toZ-ofZ}
 use Rattle.designs.proofs.Sizes.{size-true}
-use Rattle.products.proofs.Integers.{size16, sized, widened, widens}
+use Rattle.signs.proofs.Integers.{size16, sized, widened, widens}
 use native.Mathlib.Omega.{arith}
 use Rattle.rows.proofs.pairs.true_product.Statement.{statement}
 use Rattle.rows.proofs.pairs.true_product.Tie as tie

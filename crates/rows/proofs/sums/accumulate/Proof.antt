@@ -20,7 +20,7 @@ use Rattle.designs.specs.Designs.{Design, product}
 use Rattle.designs.specs.Products.{designOf}
 use Rattle.designs.specs.Rows.{nonzero}
 use Rattle.designs.specs.Signs.{negative, signedProduct, residue}
-use Rattle.products.proofs.Integers.{read-back, sized, tested}
+use Rattle.signs.proofs.Integers.{fits-as, read-back, sized, tested}
 use Rattle.rows.proofs.Pair.{Bounds, bounds, counted, minus-residue, minus-score, plus-residue, plus-score, zero-pair}
 use Rattle.rows.proofs.SoFar.{SoFar, start, next, equally, finished, finished-residues}
 use Rattle.rows.proofs.sums.accumulate.Statement.{statement}
@@ -190,7 +190,7 @@ product-of-sizes-requires : tie.Need-product-of-sizes-requires Inv-loop μ-loop
 product-of-sizes-requires c κs = c .before .before .before .before .before .before .before .pre .known
 
 add-true-sum : tie.Need-add-true-sum Inv-loop μ-loop
-add-true-sum c = rw (truth-back c) (true-fits (turn-of c))
+add-true-sum c = fits-as (ap (λ (z : ℤ). toZ w64 (turn-of c .before .before .before .loop .true-sum) +ℤ z) (truth-back c)) (true-fits (turn-of c))
 
 -- a true product below 0: the design's is taken off the score
 module _ (c : tie.Then2 Inv-loop μ-loop) where
@@ -208,13 +208,13 @@ module _ (c : tie.Then2 Inv-loop μ-loop) where
       ∙ minus-residue (D turn) (w turn) (x turn) (full-at (c .before)) (sign-is (c .before) (c .if2 .taken))
 
 sub-score : tie.Need-sub-score Inv-loop μ-loop
-sub-score c = rw (less-score c) (score-fits (turn-of (c .before)))
+sub-score c = fits-as (less-score c) (score-fits (turn-of (c .before)))
 
 add-magnitude-sum : tie.Need-add-magnitude-sum Inv-loop μ-loop
 add-magnitude-sum c = record { fits = sum-fits (c .before .before) (c .magnitude .result) (c .magnitude .ensures) }
 
 add-write : tie.Need-add-write Inv-loop μ-loop
-add-write c = rw (more-residue (c .before .before)) (residue-fits (turn-of (c .before .before .before)))
+add-write c = fits-as (more-residue (c .before .before)) (residue-fits (turn-of (c .before .before .before)))
 
 write-requires-2 : tie.Need-write-requires-2 Inv-loop μ-loop
 write-requires-2 c κs = place (turn-of (c .before .before .before))
@@ -240,13 +240,13 @@ module _ (c : tie.Else2 Inv-loop μ-loop) where
       ∙ plus-residue (D turn) (w turn) (x turn) (full-at (c .before)) (sign-is (c .before) (c .if2 .left))
 
 add-score : tie.Need-add-score Inv-loop μ-loop
-add-score c = rw (more-score c) (score-fits (turn-of (c .before)))
+add-score c = fits-as (more-score c) (score-fits (turn-of (c .before)))
 
 add-magnitude-sum-2 : tie.Need-add-magnitude-sum-2 Inv-loop μ-loop
 add-magnitude-sum-2 c = record { fits = sum-fits (c .before .before) (c .magnitude2 .result) (c .magnitude2 .ensures) }
 
 sub-write : tie.Need-sub-write Inv-loop μ-loop
-sub-write c = rw (less-residue (c .before .before)) (residue-fits (turn-of (c .before .before .before)))
+sub-write c = fits-as (less-residue (c .before .before)) (residue-fits (turn-of (c .before .before .before)))
 
 write-requires-3 : tie.Need-write-requires-3 Inv-loop μ-loop
 write-requires-3 c κs = place (turn-of (c .before .before .before))

@@ -1,0 +1,60 @@
+// The tests of a design, a width and a setting.
+ghost use mathlib.Core.Path.{_≡_};
+ghost use Rattle.designs.specs.Products.{isDesign, isWidth, takesSetting};
+ghost use Rattle.refusals.specs.Settings.{settingRefusal};
+
+pub fn is_design(design: u32) -> bool
+    ensures { λ r. ⌜ r ≡ isDesign design ⌝ }
+{
+    if design < 1 {
+        return false;
+    }
+    design <= 4
+}
+
+pub fn is_width(width: u32) -> bool
+    ensures { λ r. ⌜ r ≡ isWidth width ⌝ }
+{
+    if width == 8 {
+        return true;
+    }
+    if width == 16 {
+        return true;
+    }
+    width == 32
+}
+
+// Whether a design takes a setting at a width.
+pub fn takes_setting(design: u32, width: u32, setting: u32) -> bool
+    ensures { λ r. ⌜ r ≡ takesSetting design width setting ⌝ }
+{
+    if design <= 2 {
+        return setting == 0;
+    }
+    if setting < 1 {
+        return false;
+    }
+    if design == 3 {
+        return setting <= width;
+    }
+    setting < width
+}
+
+// The refusal of a product by its design, its width and its setting, or 0.
+pub fn of_setting(design: u32, width: u32, setting: u32) -> u32
+    ensures { λ r. ⌜ r ≡ settingRefusal design width setting ⌝ }
+{
+    let known = is_design(design);
+    let listed = is_width(width);
+    let taken = takes_setting(design, width, setting);
+    if !known {
+        return crate::DESIGN;
+    }
+    if !listed {
+        return crate::WIDTH;
+    }
+    if !taken {
+        return crate::SETTING;
+    }
+    0
+}
