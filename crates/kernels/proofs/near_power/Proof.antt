@@ -18,10 +18,10 @@ cast-lead-2 : tie.Need-cast-lead-2
 cast-lead-2 c = omega (arith, lead-at c)
 
 add-result : tie.Need-add-result
-add-result c = rw (low-digit c) (omega (arith, lead-at c))
+add-result c = omega (arith, lead-at c, low-digit c)
 
 returns : tie.Need-returns
-returns c = rw (low-digit c) (record { is = lead-at c .is; small = omega (arith, lead-at c) })
+returns c = record { is = omega (arith, lead-at c, low-digit c); small = omega (arith, lead-at c, low-digit c) }
 
 pub near-power-spec : {M : Type 1} → statement M
 near-power-spec =

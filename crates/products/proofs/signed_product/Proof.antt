@@ -35,12 +35,14 @@ settled c = accept _ _ _ (sym (c .before .of-setting .ensures) ∙ c .if1 .left)
 
 -- the tests of the operands, which are read back from their bits
 first-test : (c : tie.After-inside-signed) → c .inside-signed .result ≡ first (c .before .before .before)
-first-test c = simp (toZ-ofZ (c .before .before .before .fits .a)) at (c .inside-signed .ensures)
+first-test c =
+    let start = c .before .before .before in
+    c .inside-signed .ensures ∙ ap (insideSigned (start .args .width)) (toZ-ofZ (start .fits .a))
 
 second-test : (c : tie.After-inside-signed2) → c .inside-signed2 .result ≡ second (c .before .before .before .before .before)
 second-test c =
     let start = c .before .before .before .before .before in
-    simp (toZ-ofZ (start .fits .a), toZ-ofZ (start .fits .b)) at (c .inside-signed2 .ensures)
+    c .inside-signed2 .ensures ∙ ap (insideSigned (start .args .width)) (toZ-ofZ (start .fits .b))
 
 -- both operands are inside the width
 first-holds : (c : tie.Else2) → first (c .before .before .before .before) ≡ true
