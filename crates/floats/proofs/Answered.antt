@@ -5,14 +5,15 @@ use Prim.Native.Nat.{ℕ, zero-le}
 use mathlib.Core.Bool.{false≢true}
 use lib.Dec.{lit<}
 use Rattle.designs.specs.Outcomes.{accepted}
+use Rattle.binary32.specs.Formats.{binary32}
+use Rattle.binary32.proofs.Normals.{not-zero}
+use Rattle.binary32.proofs.Values.{bits-back}
 use Rattle.floats.specs.declared.Single.{Single}
-use Rattle.floats.specs.Formats.{binary32}
 use Rattle.floats.specs.Singles.{productFields, signOf, singleOutcome}
 use Rattle.floats.specs.Meaning.{NearIfNormal}
 use Rattle.floats.specs.Answers.{SingleProduct, asSingle, singleGiven}
-use Rattle.floats.proofs.Rules.{by-rule, not-zero}
+use Rattle.floats.proofs.Rules.{by-rule}
 use Rattle.floats.proofs.Nearness.{fraction-lt, near}
-use Rattle.floats.proofs.Values.{bits-back}
 
 module _ (a b : ℕ) where
   given : singleGiven (asSingle (singleOutcome a b)) ≡ singleOutcome a b

@@ -1,5 +1,3 @@
-pub mod Patterns
 pub mod Rules
 pub mod Nearness
-pub mod Values
 pub mod Answered

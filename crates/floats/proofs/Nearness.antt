@@ -11,10 +11,11 @@ use lib.Pow.{pow-add, pow-pos}
 use Rattle.designs.proofs.Cases.{by-lt}
 use Rattle.designs.proofs.Mitchell.{at, at-short}
 use Rattle.designs.proofs.MitchellBound.{at-within}
-use Rattle.floats.specs.Formats.{Format, exponentField, fractionField, hidden, largestExponent, pattern}
+use Rattle.binary32.specs.Formats.{Format, exponentField, fractionField, hidden, largestExponent, pattern}
+use Rattle.binary32.specs.Values.{size, unit}
+use Rattle.binary32.proofs.Back.{exponent-back, fraction-back, minus-back}
 use Rattle.floats.specs.Singles.{Fields, carried, productFields, signOf}
-use Rattle.floats.specs.Meaning.{Near, size, unit}
-use Rattle.floats.proofs.Patterns.{exponent-back, fraction-back, minus-back}
+use Rattle.floats.specs.Meaning.{Near}
 
 -- with K and B in the place of the powers of two of the exponent field and the bias: without a carry, and with one
 low-units : (P x y K B : ℕ) → (P + (x + y)) * K * (B * P) ≡ (P * P + (x * P + y * P)) * (K * B)

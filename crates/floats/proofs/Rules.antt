@@ -1,28 +1,13 @@
 -- The outcome of a product, in any format, by cases on its tests: which rule the tests lead to, and, the other way, a claim on the
 -- outcome from the claim on each rule. Assumes nothing.
-use mathlib.Core.Path.{_≡_, refl, subst⁻¹}
+use mathlib.Core.Path.{_≡_, refl}
 use Prim.Native.Nat.{ℕ, _≤_, _<_}
-use native.Mathlib.Omega.{arith}
 use mathlib.Core.Bool.{Bool, true, false, not, _&&_, _||_, cond}
-use borrow.Author.Tests.{ne-eqb}
-use lib.Dec.{T, leb→le, ltb, ltb→lt}
-use lib.Ieee.Fits.{and-l, and-r}
 use Rattle.designs.specs.Outcomes.{Outcome, accepted, first, refused, unlessRefused}
 use Rattle.designs.proofs.Cases.{by-lt}
-use Rattle.floats.specs.Formats.{Format, exponentField, isFinite, isNormal, isSubnormal, isZero, largestExponent, pattern}
+use Rattle.binary32.specs.Formats.{Format, isFinite, isSubnormal, isZero, largestExponent, pattern}
 use Rattle.floats.specs.Singles.{Fields, outcome, resultRefusals, signOf}
 use Rattle.floats.specs.Steps.{resultOutcome}
-
--- what makes a number normal
-module _ (f : Format) (x : ℕ) (n : isNormal f x ≡ true) where
-  pub normal-fields : (0 < exponentField f x) × (exponentField f x ≤ largestExponent f)
-  normal-fields = (ltb→lt 0 _ (and-l (ltb 0 (exponentField f x)) (isFinite f x) test), leb→le _ _ (and-r (ltb 0 (exponentField f x)) (isFinite f x) test))
-    where
-      test : T (isNormal f x)
-      test = subst⁻¹ T n tt
-
-  pub not-zero : isZero f x ≡ false
-  not-zero = simp (ne-eqb (exponentField f x) 0 (λ q. omega (arith, normal-fields .0)))
 
 module _ (f : Format) (a b : ℕ) (r : Fields) where
   -- a claim on the outcome, from the claim on each case: a refusal, the zero rule, and the result with its fields

@@ -4,7 +4,7 @@ use Prim.Native.Nat.{ℕ}
 use lib.Ieee.{ofBits, toBits}
 use lib.Ieee as Ieee
 use Rattle.designs.specs.Outcomes.{Outcome, accepted, refused}
-use Rattle.floats.specs.Formats.{binary32}
+use Rattle.binary32.specs.Formats.{binary32}
 use Rattle.floats.specs.Singles.{singleOutcome}
 use Rattle.floats.specs.Meaning.{NearIfNormal}
 use Rattle.floats.specs.declared.Single.{Single}

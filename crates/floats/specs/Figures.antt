@@ -4,7 +4,6 @@ use mathlib.Core.Path.{_≡_, refl}
 use mathlib.Core.List.{List, [], _∷_, map}
 use Prim.Native.Nat.{ℕ}
 use Rattle.designs.specs.Outcomes.{Outcome, accepted, refused}
-use Rattle.floats.specs.Formats.{binary32, largestExponent}
 use Rattle.floats.specs.Singles.{outcome, productFields, singleOutcome}
 
 -- an outcome, and what it should be
@@ -32,7 +31,3 @@ figures =
 pub figures-hold : map (λ g. g .0) figures ≡ map (λ g. g .1) figures
 unfolding figures
 figures-hold = refl
-
--- largest finite exponent field 254
-pub largest : largestExponent binary32 ≡ 254
-largest = refl

@@ -1,4 +1,3 @@
-pub mod Formats
 pub mod Singles
 pub mod Meaning
 pub mod Answers

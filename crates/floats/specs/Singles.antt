@@ -5,7 +5,7 @@ use mathlib.Core.List.{List, [], _∷_}
 use lib.Dec.{ltb}
 use lib.Ieee.{unlike}
 use Rattle.designs.specs.Outcomes.{Outcome, Refusal, _when_, first, unlessRefused}
-use Rattle.floats.specs.Formats.{Format, binary32, exponentField, fractionField, hidden, isFinite, isMinus, isSubnormal, isZero, largestExponent, pattern}
+use Rattle.binary32.specs.Formats.{Format, binary32, exponentField, fractionField, hidden, isFinite, isMinus, isSubnormal, isZero, largestExponent, pattern}
 
 -- The exponent field and the fraction field of a result.
 pub record Fields : Type 0 where

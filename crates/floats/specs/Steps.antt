@@ -2,7 +2,7 @@
 use Prim.Native.Nat.{ℕ}
 use mathlib.Core.Bool.{Bool}
 use Rattle.designs.specs.Outcomes.{Outcome, first, unlessRefused}
-use Rattle.floats.specs.Formats.{Format, pattern}
+use Rattle.binary32.specs.Formats.{Format, pattern}
 use Rattle.floats.specs.Singles.{Fields, resultRefusals}
 
 -- The outcome of a result by its fields, where no operand is refused and none is zero.

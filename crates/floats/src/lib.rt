@@ -3,14 +3,11 @@
 ghost use mathlib.Core.Path.{_≡_};
 ghost use Prim.Native.Nat.{_-_, _≤_, _<_};
 ghost use Rattle.designs.specs.Outcomes.{accepted};
-ghost use Rattle.floats.specs.Formats.{binary32, hidden, largestExponent, pattern};
+ghost use Rattle.binary32.specs.Formats.{binary32, hidden, largestExponent, pattern};
 ghost use Rattle.floats.specs.Singles.{productFields};
 ghost use Rattle.floats.specs.Steps.{resultOutcome};
 ghost use Rattle.floats.specs.Answers.{SingleProduct, asSingle, patternGiven, singleGiven};
-
-mod formats;
-
-pub use formats::Binary32;
+use binary32::Binary32;
 
 // The refusal numbers.
 pub const NOT_FINITE: u32 = 8;
@@ -102,6 +99,17 @@ fn value(minus: bool, exponent: u32, fraction: u32) -> Single
     requires { ⌜ (exponent ≤ largestExponent binary32) × (fraction < hidden binary32) ⌝ }
     ensures { λ r. ⌜ r ≡ asSingle (accepted (pattern binary32 minus exponent fraction)) ⌝ }
 {
-    let made = Binary32::from_fields(minus, exponent, fraction);
-    Single::Value(f32::from_bits(made.bits))
+    Single::Value(f32::from_bits(pattern_of(minus, exponent, fraction)))
+}
+
+// The pattern of the finite number with a sign and these fields.
+fn pattern_of(minus: bool, exponent: u32, fraction: u32) -> u32
+    requires { ⌜ (exponent ≤ largestExponent binary32) × (fraction < hidden binary32) ⌝ }
+    ensures { λ r. ⌜ r ≡ pattern binary32 minus exponent fraction ⌝ }
+{
+    let size = (exponent << Binary32::FRACTION_BITS) + fraction;
+    if minus {
+        return (1 << Binary32::SIGN_PLACE) + size;
+    }
+    size
 }

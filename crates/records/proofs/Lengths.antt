@@ -21,7 +21,7 @@ use Rattle.designs.specs.Signs.{negative, signedProduct}
 use Rattle.designs.proofs.Cases.{by-lt, either-lt}
 use Rattle.designs.proofs.Sizes.{size-sign}
 use Rattle.designs.proofs.Widths.{product-lt}
-use Rattle.floats.specs.Formats.{binary32, pattern, isZero}
+use Rattle.binary32.specs.Formats.{binary32, pattern, isZero}
 use Rattle.floats.specs.Singles.{Fields, outcome, resultPattern, productFields, signOf, singleOutcome}
 use Rattle.floats.specs.Singles as Singles
 use Rattle.text.specs.Text.{decimal, signedDecimal}

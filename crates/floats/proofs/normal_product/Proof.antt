@@ -3,7 +3,7 @@ use borrow.Author.Needs.{needs}
 use mathlib.Core.Path.{_≡_, _∙_}
 use Prim.Native.Nat.{_+_}
 use borrow.Author.Tests.{le-ltb, lt-ltb}
-use Rattle.floats.specs.Formats.{binary32, exponentField, fractionField}
+use Rattle.binary32.specs.Formats.{binary32, exponentField, fractionField}
 use Rattle.floats.specs.Singles.{productFields}
 use Rattle.floats.proofs.normal_product.Statement.{statement}
 use Rattle.floats.proofs.normal_product.Tie as tie

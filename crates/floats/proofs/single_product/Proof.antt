@@ -4,7 +4,7 @@ use mathlib.Core.Path.{_≡_, sym, ap, _∙_}
 use Prim.Native.Nat.{ℕ}
 use mathlib.Core.Bool.{Bool, false, not, _&&_, _||_}
 use lib.Ieee.{unlike}
-use Rattle.floats.specs.Formats.{binary32, isFinite, isMinus, isSubnormal, isZero}
+use Rattle.binary32.specs.Formats.{binary32, isFinite, isMinus, isSubnormal, isZero}
 use Rattle.floats.specs.Singles.{signOf, singleOutcome}
 use Rattle.floats.specs.Answers.{asSingle}
 use Rattle.floats.proofs.Rules.{nonzero, not-finite, subnormal, zero}

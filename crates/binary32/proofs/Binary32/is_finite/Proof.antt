@@ -1,7 +1,7 @@
 -- `is_finite` makes the test of `isFinite` on the field that is read. Assumes nothing.
 use borrow.Author.Needs.{needs}
-use Rattle.floats.proofs.formats.Binary32.is_finite.Statement.{statement}
-use Rattle.floats.proofs.formats.Binary32.is_finite.Tie as tie
+use Rattle.binary32.proofs.Binary32.is_finite.Statement.{statement}
+use Rattle.binary32.proofs.Binary32.is_finite.Tie as tie
 
 returns : tie.Need-returns
 returns c = rw (c .exponent-field .ensures)

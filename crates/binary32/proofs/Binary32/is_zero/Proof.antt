@@ -1,7 +1,7 @@
 -- `is_zero` makes the tests of `isZero` on the fields that are read. Assumes nothing.
 use borrow.Author.Needs.{needs}
-use Rattle.floats.proofs.formats.Binary32.is_zero.Statement.{statement}
-use Rattle.floats.proofs.formats.Binary32.is_zero.Tie as tie
+use Rattle.binary32.proofs.Binary32.is_zero.Statement.{statement}
+use Rattle.binary32.proofs.Binary32.is_zero.Tie as tie
 
 returns : tie.Need-returns
 returns c = rw (c .before .exponent-field .ensures, c .fraction-field .ensures)

@@ -6,7 +6,7 @@ use native.Mathlib.Nat.{add-comm}
 use mathlib.Core.Bool.{Bool, true, false, cond}
 use lib.Dec.{eqb}
 use lib.Pow.{high, low, shr-shr}
-use Rattle.floats.specs.Formats.{Format, exponentField, fractionField, hidden, isMinus, pattern}
+use Rattle.binary32.specs.Formats.{Format, exponentField, fractionField, hidden, isMinus, pattern}
 
 module _ (f : Format) (minus : Bool) (E e : ℕ) (hE : E < 2 ^ f .exponentBits) (he : e < hidden f) where
   -- the pattern without its fraction field

@@ -1,22 +1,21 @@
 -- A pattern of binary32 stands for a number of the kit's `lib.Ieee`. The fields that are read there are those of `Formats`, so no
 -- finite pattern is a NaN's and each is brought back by `toBits`, and a normal one has the value size / unit. Assumes nothing.
-use mathlib.Core.Path.{_≡_, sym, ap, _∙_, subst}
+use mathlib.Core.Path.{_≡_, refl, sym, ap, _∙_, subst}
 use Prim.Native.Nat.{ℕ, zero, suc, _+_, _*_, _/_, _^_, _≤_, _<_}
 use native.Mathlib.Nat.{pow-succ'}
 use native.Mathlib.Omega.{arith}
 use mathlib.Core.Bool.{Bool, true, false, not}
-use borrow.Author.Tests.{eq-eqb, le-leb, lt-leb, ne-eqb}
+use borrow.Author.Tests.{eq-eqb, leb-false, leb-true, ne-eqb}
 use lib.Dec.{T, leb}
 use lib.Pow.{field}
 use lib.Ieee.{Float, down, fin, inf, nan, nanBits, odd, ofBits, ofFields, toBits}
 use lib.Ieee as Ieee
 use lib.Ieee.Bits.{nanBits-is, toBits-ofBits}
 use lib.Ieee.Exact.{HasValue, odd-sign}
-use Rattle.designs.proofs.Cases.{either-lt}
-use Rattle.floats.specs.Formats.{binary32, exponentField, fractionField, hidden, isMinus, isNormal, largestExponent, pattern}
-use Rattle.floats.specs.Meaning.{size, unit}
-use Rattle.floats.proofs.Patterns.{exponent-back}
-use Rattle.floats.proofs.Rules.{normal-fields}
+use Rattle.binary32.specs.Formats.{binary32, exponentField, fractionField, hidden, isMinus, isNormal, largestExponent, pattern}
+use Rattle.binary32.specs.Values.{size, unit}
+use Rattle.binary32.proofs.Back.{exponent-back}
+use Rattle.binary32.proofs.Normals.{normal-fields}
 
 module _ (minus : Bool) (E e : ℕ) (hE : E ≤ largestExponent binary32) (he : e < hidden binary32) where
   pub no-nan : nanBits Ieee.binary32 (pattern binary32 minus E e) ≡ false
@@ -53,5 +52,9 @@ unfolding ofBits
 has-value x h n =
     rw (field x 8 23, sign) (fields (isMinus binary32 x) (exponentField binary32 x) (fractionField binary32 x) (normal-fields binary32 x n .0) (normal-fields binary32 x n .1))
   where
+    told : (t : Bool) → leb (2 ^ 31) x ≡ t → t ≡ isMinus binary32 x
+    told true e = sym (eq-eqb (x / 2 ^ 31) 1 (omega (arith, leb-true (2 ^ 31) x e)))
+    told false e = sym (ne-eqb (x / 2 ^ 31) 1 (λ q. omega (arith, leb-false (2 ^ 31) x e)))
+
     sign : leb (2 ^ 31) x ≡ isMinus binary32 x
-    sign = either-lt x (2 ^ 31) (λ l. lt-leb _ _ l ∙ sym (ne-eqb (x / 2 ^ 31) 1 (λ q. omega arith))) (λ l. le-leb _ _ l ∙ sym (eq-eqb (x / 2 ^ 31) 1 (omega arith)))
+    sign = told (leb (2 ^ 31) x) refl

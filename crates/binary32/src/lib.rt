@@ -1,7 +1,6 @@
 // The binary32 format: the constants that name its fields, and the functions that read them off a pattern.
 ghost use mathlib.Core.Path.{_≡_};
-ghost use Prim.Native.Nat.{_≤_, _<_};
-ghost use Rattle.floats.specs.Formats.{binary32, exponentField, fractionField, hidden, isFinite, isMinus, isSubnormal, isZero, largestExponent, pattern};
+ghost use Rattle.binary32.specs.Formats.{binary32, exponentField, fractionField, isFinite, isMinus, isSubnormal, isZero};
 
 // IEEE 754 binary32, by its pattern.
 pub struct Binary32 {
@@ -79,19 +78,5 @@ impl Binary32 {
         ensures { λ r. ⌜ r ≡ isZero binary32 (self .bits) ⌝ }
     {
         (self.exponent_field() == 0) & (self.fraction_field() == 0)
-    }
-
-    // The finite number with a sign and these fields.
-    pub(crate) fn from_fields(minus: bool, exponent: u32, fraction: u32) -> Self
-        requires { ⌜ (exponent ≤ largestExponent binary32) × (fraction < hidden binary32) ⌝ }
-        ensures { λ r. ⌜ r .bits ≡ pattern binary32 minus exponent fraction ⌝ }
-    {
-        let size = (exponent << Self::FRACTION_BITS) + fraction;
-        if minus {
-            return Self {
-                bits: (1 << Self::SIGN_PLACE) + size,
-            };
-        }
-        Self { bits: size }
     }
 }
