@@ -1,101 +1,77 @@
-// The figures of document 01, "Figures to hold the designs to", that have no star, and what the sentences under the table say.
-use crate::product_vectors::compare_signed;
-use crate::product_vectors::compare_unsigned;
-use crate::row_vectors;
+// The figures of document 01, "Figures to hold the designs to", that have no star, and what the sentences under the table say, as
+// lines like those of the vectors. Two kinds are of the figures alone:
+// q DESIGN WIDTH SETTING A REFUSAL PRODUCT RESIDUE: the product of A and A, and the residue that it leaves of the true product.
+// n PAIRS REFUSAL SCORE TRUE ERROR T N RESIDUES: so many pairs (1, 1) by design 1, and of the residues only how many they are.
+use crate::answer::Answer;
+use crate::codes::u32_of;
+use crate::field::field_at;
+use crate::fields::Fields;
+use crate::fields::read;
+use crate::lines;
+use crate::product_vectors::unsigned_answer;
+use crate::row_vectors::LONGEST;
+use crate::row_vectors::ROOM;
+use crate::row_vectors::count_at;
 use crate::row_vectors::is_due;
-use crate::single_vectors::compare as compare_single;
-use crate::tally::Outcome;
 use crate::tally::Tally;
-use crate::tally::outcome_of;
-use crate::text::Cursor;
-use floats::single_product;
-use products::signed_product;
-use products::unsigned_product;
-use rows::RowReport;
 
+// In their order: the table's rows; that design 3 at width 8 takes 8 stages, and neither 0 nor 9; that width 8 signed takes −128 as
+// the first operand, and not 128; the starred row; that 4,096 pairs are scored, and 4,097 not; that score −20 with shift 3 is −2.5,
+// and T 39 then 4.875; the singles.
 pub fn run() -> Tally {
-    singles(handed(lengths(starred(operands(settings(table(Tally::new())))))))
+    lines::count(
+        b"q 1 8 0 255 0 65024 1
+q 2 32 0 4294967295 0 18446744065119617024 1
+q 4 8 4 255 0 63488 1537
+q 4 8 1 1 0 1 0
+u 3 8 8 7 7 0 49
+u 3 8 0 7 7 3 0
+u 3 8 9 7 7 3 0
+s 1 8 0 -128 1 0 -128
+s 1 8 0 128 1 4 0
+r 1 0 3 3 -5 0 3 3 6 7 3 0 -20 -21 -1 39 2 3 1 -2 0
+n 4096 0 4096 4096 0 4096 4096 4096
+n 4097 6 0 0 0 0 0 0
+h -20 39 3 0 13836183955189006336 4617174780473245696
+f 1067450368 1067450368 0 1069547520
+f 12582912 1061158912 0 8388608
+f 8388608 1056964608 11 0
+f 2130706432 1073741824 10 0
+",
+        lines::FIGURES,
+    )
 }
 
-fn table(tally: Tally) -> Tally {
-    let most: u64 = 4294967295;
-    tally
-        .with(row(unsigned_product(1, 8, 0, 255, 255), 65024, 255 * 255, 1))
-        .with(row(
-            unsigned_product(2, 32, 0, most, most),
-            18446744065119617024,
-            most * most,
-            1,
-        ))
-        .with(row(unsigned_product(4, 8, 4, 255, 255), 63488, 255 * 255, 1537))
-        .with(row(unsigned_product(4, 8, 1, 1, 1), 1, 1, 0))
+pub fn square(fields: Fields) -> Answer {
+    let a = u32_of(fields.d);
+    let product = unsigned_answer(
+        u32_of(fields.a),
+        u32_of(fields.b),
+        u32_of(fields.c),
+        a as u64,
+        a as u64,
+    );
+    Answer {
+        is_refused: product.is_refused,
+        refusal: product.refusal,
+        first: product.first,
+        second: std::num::wrapping_sub_u64(true_square(a), product.first),
+    }
 }
 
-// A product, and the residue that it leaves of the true product.
-fn row(given: products::Unsigned, product: u64, true_product: u64, residue: u64) -> Outcome {
-    let products::Unsigned::Value(value) = given else {
-        return Outcome::Wrong;
-    };
-    // modulo 2^64, since nothing shows that the product is the lower one; in these rows it is
-    let left = std::num::wrapping_sub_u64(true_product, value);
-    outcome_of((value == product) & (left == residue))
+fn true_square(a: u32) -> u64 {
+    a as u64 * a as u64
 }
 
-// Design 3 at width 8 takes 8 stages, and neither 0 nor 9. Of 7 × 7 three stages leave nothing.
-fn settings(tally: Tally) -> Tally {
-    tally
-        .with(compare_unsigned(unsigned_product(3, 8, 8, 7, 7), 0, 49))
-        .with(compare_unsigned(unsigned_product(3, 8, 0, 7, 7), 3, 0))
-        .with(compare_unsigned(unsigned_product(3, 8, 9, 7, 7), 3, 0))
+pub fn ones(line: &[u8]) -> bool {
+    let ones = [1i16; ROOM];
+    let count = count_at(line, 1);
+    are_scored(line, &ones[0..count])
 }
 
-// Width 8 signed takes −128 as the first operand, and not 128. A product of powers of two is exact.
-fn operands(tally: Tally) -> Tally {
-    tally
-        .with(compare_signed(signed_product(1, 8, 0, -128, 1), 0, -128))
-        .with(compare_signed(signed_product(1, 8, 0, 128, 1), 4, 0))
-}
-
-// The pairs (3, 3), (−5, 6), (0, 7) by design 1, as a line of the vectors: score −20, true sum −21, error −1, T 39, n 2 and the
-// residues 1, −2, 0.
-fn starred(tally: Tally) -> Tally {
-    let line = b"1 0 3 3 -5 0 3 3 6 7 3 0 -20 -21 -1 39 2 3 1 -2 0\n";
-    tally.with(row_vectors::row(line, Cursor { at: 0 }))
-}
-
-// 4,096 pairs are scored, 4,097 give 6.
-fn lengths(tally: Tally) -> Tally {
-    let longest = [1i16; 4096];
-    let longer = [1i16; 4097];
-    let report = RowReport {
-        score: 4096,
-        true_sum: 4096,
-        error: 0,
-        magnitude_sum: 4096,
-        nonzero_pairs: 4096,
-    };
-    tally
-        .with(outcome_of(is_due(score_ones(&longest), 0, report)))
-        .with(outcome_of(is_due(score_ones(&longer), 6, row_vectors::nothing())))
-}
-
-fn score_ones(ones: &[i16]) -> rows::Scored {
-    let mut residues = [0i64; 4097];
-    rows::score_row(1, 0, ones, ones, &mut residues)
-}
-
-// Score −20 with shift 3 is −2.5, and the row's T, 39, is then 4.875.
-fn handed(tally: Tally) -> Tally {
-    let scores::Scaled::Values(values) = scores::scale(-20, 39, 3) else {
-        return tally.with(Outcome::Wrong);
-    };
-    tally.with(outcome_of((values.score == -2.5) & (values.magnitude_sum == 4.875)))
-}
-
-fn singles(tally: Tally) -> Tally {
-    tally
-        .with(compare_single(single_product(0x3fa0_0000, 0x3fa0_0000), 0, 0x3fc0_0000))
-        .with(compare_single(single_product(0x00c0_0000, 0x3f40_0000), 0, 0x0080_0000))
-        .with(compare_single(single_product(0x0080_0000, 0x3f00_0000), 11, 0))
-        .with(compare_single(single_product(0x7f00_0000, 0x4000_0000), 10, 0))
+fn are_scored(line: &[u8], ones: &[i16]) -> bool {
+    let due = read(line, field_at(line, 1, LONGEST).next, b'n', 7);
+    let mut residues = [0i64; ROOM];
+    let given = rows::score_row(1, 0, ones, ones, &mut residues);
+    is_due(given, ones.len() as u64, due) & (due.next == line.len())
 }

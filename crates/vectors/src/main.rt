@@ -1,32 +1,64 @@
 // Runs the figures of document 01, all pairs of the byte table and the vectors of standard input through the library, and prints
 // how many it compared and how many were wrong.
-mod digits;
+mod answer;
+mod codes;
+mod field;
+mod fields;
 mod figures;
+mod kinds;
 mod lines;
 mod product_vectors;
-mod residues;
 mod row_vectors;
 mod score_vectors;
 mod single_vectors;
+mod slices;
 mod store_vectors;
 mod table;
 mod tally;
-mod text;
+
+// More than the vectors take.
+const CAPACITY: usize = 1048576;
 
 fn main() {
     tally::print(b"figures: ", figures::run());
     tally::print(b"table: ", table::run());
-    let mut store = [0i16; store_vectors::LARGEST];
-    store_vectors::fill(&mut store);
-    let mut buffer = [0u8; lines::CAPACITY];
-    print(lines::run(&mut buffer, &store));
+    let mut buffer = [0u8; CAPACITY];
+    run(&mut buffer);
 }
 
-fn print(counts: lines::Counts) {
-    tally::print(b"products: ", counts.products);
-    tally::print(b"rows: ", counts.rows);
-    tally::print(b"stores: ", counts.stores);
-    tally::print(b"scores: ", counts.scores);
-    tally::print(b"singles: ", counts.singles);
-    tally::print_units(b"input: ", b" lines, ", counts.input);
+// The buffer is an array here, so that lending it as a slice asks nothing of its length.
+fn run(buffer: &mut [u8; CAPACITY]) {
+    read(buffer);
+}
+
+fn read(buffer: &mut [u8]) {
+    let length = io::read_full(0, buffer);
+    if !is_whole(buffer, length) {
+        io::write_all(1, b"input: cut off\n");
+    }
+    count(&buffer[..length]);
+}
+
+// An input that fills the buffer may have been cut off, and one that does not end with a line has been.
+fn is_whole(buffer: &[u8], length: usize) -> bool {
+    if buffer.len() <= length {
+        return false;
+    }
+    if length == 0 {
+        return false;
+    }
+    buffer[length - 1] == b'\n'
+}
+
+fn count(input: &[u8]) {
+    print(b"products: ", input, lines::PRODUCTS);
+    print(b"rows: ", input, lines::ROWS);
+    print(b"stores: ", input, lines::STORES);
+    print(b"scores: ", input, lines::SCORES);
+    print(b"singles: ", input, lines::SINGLES);
+    tally::print_units(b"input: ", b" lines, ", lines::count(input, lines::INPUT));
+}
+
+fn print(name: &[u8], input: &[u8], group: u8) {
+    tally::print(name, lines::count(input, group));
 }

@@ -1,130 +1,129 @@
-// Vectors of rows, DESIGN SETTING WEIGHTS FRAME PLACES REFUSAL SCORE TRUE ERROR T N RESIDUES after the kind `r`. Each step makes
-// room for the next list, as long as the line says, so that the slices of the call have exactly these lengths.
-use crate::residues;
-use crate::tally::Outcome;
-use crate::text::Cursor;
-use crate::text::read_i16;
-use crate::text::read_i64;
-use crate::text::read_u32;
-use crate::text::read_u64;
+// Vectors of rows, DESIGN SETTING WEIGHTS FRAME PLACES REFUSAL SCORE TRUE ERROR T N RESIDUES after the kind `r`. WEIGHTS, FRAME and
+// RESIDUES are lists, each a length and so many numbers. PLACES is the length of the residue slice.
+ghost use Prim.Native.Nat.{_≤_};
+use crate::answer::is_refusal;
+use crate::codes::i64_of;
+use crate::codes::u32_of;
+use crate::field::I64;
+use crate::field::U32;
+use crate::field::field_at;
+use crate::field::lost;
+use crate::fields::Fields;
+use crate::fields::read;
+use crate::slices::first;
 use rows::RowReport;
 
-// More than a list or the residue slice of any vector takes. A line that asks for more is not read.
-const ROOM: usize = 4110;
+// What a list or the residue slice has at most. A line that asks for more is not read.
+pub const ROOM: usize = 4110;
 
-struct Multiplier {
-    design: u32,
-    setting: u32,
+pub const LONGEST: u64 = 4110;
+
+// What each place of the residue slice holds before the call. No residue is so large.
+const MARK: i64 = 1000000000000;
+
+pub fn row(line: &[u8]) -> bool {
+    let design = field_at(line, 1, U32);
+    let setting = field_at(line, design.next, U32);
+    is_row(
+        line,
+        setting.next,
+        u32_of(design.code),
+        u32_of(setting.code),
+    )
 }
 
-pub fn row(line: &[u8], cursor: Cursor) -> Outcome {
-    let design = read_u32(line, cursor, b' ');
-    let setting = read_u32(line, design.next, b' ');
-    let length = read_u64(line, setting.next, b' ');
-    let by = Multiplier {
-        design: design.value,
-        setting: setting.value,
-    };
-    let count = length.value as usize;
-    if ROOM < count {
-        return Outcome::Unread;
+// The slices of the call have exactly the lengths that the line says.
+fn is_row(line: &[u8], start: usize, design: u32, setting: u32) -> bool {
+    let mut weights = [0i16; ROOM];
+    let mut frame = [0i16; ROOM];
+    let second = read_list(line, start, &mut weights);
+    let rest = read_list(line, second, &mut frame);
+    let n = count_at(line, start);
+    let m = count_at(line, second);
+    is_scored(line, rest, design, setting, &weights, n, &frame, m)
+}
+
+// The length that stands there, 0 where none is read.
+pub fn count_at(line: &[u8], start: usize) -> usize
+    ensures { λ r. ⌜ r ≤ 4110 ⌝ }
+{
+    let count = field_at(line, start, LONGEST).code;
+    if count <= LONGEST {
+        return count as usize;
     }
-    let mut room = [0i16; ROOM];
-    with_weights(line, length.next, by, &mut room[0..count])
+    0
 }
 
-fn with_weights(line: &[u8], cursor: Cursor, by: Multiplier, weights: &mut [i16]) -> Outcome {
-    let length = read_u64(line, read_elements(line, cursor, weights), b' ');
-    let count = length.value as usize;
-    if ROOM < count {
-        return Outcome::Unread;
-    }
-    let mut room = [0i16; ROOM];
-    with_frame(line, length.next, by, weights, &mut room[0..count])
-}
-
-fn with_frame(
-    line: &[u8],
-    cursor: Cursor,
-    by: Multiplier,
-    weights: &[i16],
-    frame: &mut [i16],
-) -> Outcome {
-    let length = read_u64(line, read_elements(line, cursor, frame), b' ');
-    let count = length.value as usize;
-    if ROOM < count {
-        return Outcome::Unread;
-    }
-    let mut room = [0i64; ROOM];
-    with_places(line, length.next, by, weights, frame, &mut room[0..count])
-}
-
-fn with_places(
-    line: &[u8],
-    cursor: Cursor,
-    by: Multiplier,
-    weights: &[i16],
-    frame: &[i16],
-    places: &mut [i64],
-) -> Outcome {
-    residues::mark(places);
-    let given = rows::score_row(by.design, by.setting, weights, frame, places);
-    let refusal = read_u32(line, cursor, b' ');
-    let report = read_report(line, refusal.next);
-    let is_reported = is_due(given, refusal.value, report.value);
-    if refusal.value == 0 {
-        return residues::compare(line, report.next, is_reported, weights.len(), places);
-    }
-    residues::compare(line, report.next, is_reported, 0, places)
-}
-
-// As many elements as there is room for, each with a space after it; the cursor after them.
-fn read_elements(line: &[u8], cursor: Cursor, elements: &mut [i16]) -> Cursor {
-    let mut at = cursor;
+// Reads a list to the front of `elements`, and answers where it ends.
+fn read_list(line: &[u8], start: usize, elements: &mut [i16; ROOM]) -> usize {
+    let count = count_at(line, start);
+    let mut next = field_at(line, start, LONGEST).next;
     let mut i = 0;
-    while i < elements.len() {
-        let field = read_i16(line, at, b' ');
+    while i < count {
+        let field = element_at(line, next);
         let element = field.value;
         elements[i] = element;
-        at = field.next;
+        next = field.next;
         i += 1;
     }
-    at
+    next
 }
 
-struct FieldReport {
-    value: RowReport,
-    next: Cursor,
+struct Element {
+    value: i16,
+    next: usize,
 }
 
-fn read_report(line: &[u8], cursor: Cursor) -> FieldReport {
-    let score = read_i64(line, cursor, b' ');
-    let true_sum = read_i64(line, score.next, b' ');
-    let error = read_i64(line, true_sum.next, b' ');
-    let magnitude_sum = read_u64(line, error.next, b' ');
-    let nonzero_pairs = read_u64(line, magnitude_sum.next, b' ');
-    let value = RowReport {
-        score: score.value,
-        true_sum: true_sum.value,
-        error: error.value,
-        magnitude_sum: magnitude_sum.value,
-        nonzero_pairs: nonzero_pairs.value,
-    };
-    let next = nonzero_pairs.next;
-    FieldReport { value, next }
+fn element_at(line: &[u8], start: usize) -> Element {
+    let field = field_at(line, start, I64);
+    let code = field.code;
+    let next = field.next;
+    if code < 32768 {
+        let value = code as i16;
+        return Element { value, next };
+    }
+    if u64::MAX - code < 32768 {
+        let value = !((u64::MAX - code) as i16);
+        return Element { value, next };
+    }
+    let next = lost().next;
+    Element { value: 0, next }
 }
 
-// Where the refusal is 0 the report is due, and otherwise that very refusal, and a report of zeros.
-pub fn is_due(given: rows::Scored, refusal: u32, report: RowReport) -> bool {
+fn is_scored(
+    line: &[u8],
+    start: usize,
+    design: u32,
+    setting: u32,
+    weights: &[i16; ROOM],
+    n: usize,
+    frame: &[i16; ROOM],
+    m: usize,
+) -> bool {
+    let count = count_at(line, start);
+    let due = read(line, field_at(line, start, LONGEST).next, b'r', 7);
+    let mut places = [MARK; ROOM];
+    let given = rows::score_row(
+        design,
+        setting,
+        first(weights, n),
+        first(frame, m),
+        &mut places[0..count],
+    );
+    is_due(given, n as u64, due) & are_due(line, due.next, due.g, &places)
+}
+
+// Where the refusal is 0 the report is due, and a residue for each pair, and otherwise that very refusal, zeros and no residue.
+pub fn is_due(given: rows::Scored, pairs: u64, due: Fields) -> bool {
     match given {
-        rows::Scored::Report(found) => (refusal == 0) & is_same(found, report),
+        rows::Scored::Report(report) => (due.a == 0) & is_report(report, pairs, due),
         rows::Scored::Refused(number) => {
-            (refusal != 0) & (number == refusal) & is_same(nothing(), report)
+            is_refusal(number, due.a) & is_report(nothing(), 0, due)
         }
     }
 }
 
-pub fn nothing() -> RowReport {
+fn nothing() -> RowReport {
     RowReport {
         score: 0,
         true_sum: 0,
@@ -134,10 +133,38 @@ pub fn nothing() -> RowReport {
     }
 }
 
-fn is_same(a: RowReport, b: RowReport) -> bool {
-    (a.score == b.score)
-        & (a.true_sum == b.true_sum)
-        & (a.error == b.error)
-        & (a.magnitude_sum == b.magnitude_sum)
-        & (a.nonzero_pairs == b.nonzero_pairs)
+fn is_report(report: RowReport, residues: u64, due: Fields) -> bool {
+    (report.score == i64_of(due.b))
+        & (report.true_sum == i64_of(due.c))
+        & (report.error == i64_of(due.d))
+        & (report.magnitude_sum == due.e)
+        & (report.nonzero_pairs == due.f)
+        & (residues == due.g)
+}
+
+// The line ends with so many residues, which the first places hold. The later ones hold their mark.
+fn are_due(line: &[u8], start: usize, count: u64, places: &[i64; ROOM]) -> bool {
+    let mut next = start;
+    let mut i = 0;
+    while i < ROOM {
+        next = after(line, next, places[i], (i as u64) < count);
+        i += 1;
+    }
+    next == line.len()
+}
+
+// Where the next residue starts, if the place holds what is due there.
+fn after(line: &[u8], start: usize, place: i64, is_residue: bool) -> usize {
+    if !is_residue {
+        return start_if(place == MARK, start);
+    }
+    let residue = field_at(line, start, I64);
+    start_if(place == i64_of(residue.code), residue.next)
+}
+
+fn start_if(is_right: bool, start: usize) -> usize {
+    if is_right {
+        return start;
+    }
+    lost().next
 }

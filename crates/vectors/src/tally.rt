@@ -1,18 +1,4 @@
-// How comparisons came out, and how many of them.
-
-pub enum Outcome {
-    Right,
-    Wrong,
-    // It could not be read, so nothing was compared.
-    Unread,
-}
-
-pub fn outcome_of(is_right: bool) -> Outcome {
-    if is_right {
-        return Outcome::Right;
-    }
-    Outcome::Wrong
-}
+// How many comparisons were made, and how many of them came out wrong.
 
 pub struct Tally {
     pub compared: u64,
@@ -27,21 +13,11 @@ impl Tally {
         }
     }
 
-    // What is unread counts as wrong and not as compared. The counts are modulo 2^64, which no input is long enough to reach.
-    pub fn with(self, outcome: Outcome) -> Self {
+    // The counts are modulo 2^64, which no input is long enough to reach.
+    pub fn with(self, is_right: bool) -> Self {
         let compared = std::num::wrapping_add_u64(self.compared, 1);
-        let wrong = std::num::wrapping_add_u64(self.wrong, 1);
-        match outcome {
-            Outcome::Right => Tally {
-                compared,
-                wrong: self.wrong,
-            },
-            Outcome::Wrong => Tally { compared, wrong },
-            Outcome::Unread => Tally {
-                compared: self.compared,
-                wrong,
-            },
-        }
+        let wrong = std::num::wrapping_add_u64(self.wrong, !is_right as u64);
+        Tally { compared, wrong }
     }
 }
 

@@ -1,5 +1,4 @@
--- `count` is safe and ends: `line_end` answers a place after the line's start and within the input, so the line is a part of the
--- input, and what is left of it falls. Nothing has to hold from turn to turn. Assumes nothing.
+-- `count` is safe and ends: a line starts within the text and ends no earlier, and what is left of the text falls. Assumes nothing.
 use borrow.Author.Needs.{needs}
 use Prim.Native.Nat.{_-_}
 use lib.ListN.{length}
@@ -7,10 +6,10 @@ use Rattle.vectors.proofs.lines.count.Statement.{statement}
 use Rattle.vectors.proofs.lines.count.Tie as tie
 
 abbrev Inv-loop : tie.InvT-loop
-Inv-loop input store counts₀ start₀ counts start = Unit {0}
+Inv-loop text group tally₀ start₀ tally start = Unit {0}
 
 abbrev μ-loop : tie.MeasureT-loop
-μ-loop input store counts₀ start₀ counts start = length input - start
+μ-loop text group tally₀ start₀ tally start = length text - start
 
 pub count-spec : {M : Type 1} → statement M
 count-spec =
@@ -25,6 +24,7 @@ count-spec =
     (λ c. search needs)
     (λ c. search needs)
     (λ c κs. search needs)
+    (λ c. search needs)
     (λ c. search needs)
     (λ c. search needs)
     (λ c. search needs))
