@@ -2,13 +2,13 @@
 // lines like those of the vectors. Two kinds are of the figures alone:
 // q DESIGN WIDTH SETTING A REFUSAL PRODUCT RESIDUE: the product of A and A, and the residue that it leaves of the true product.
 // n PAIRS REFUSAL SCORE TRUE ERROR T N RESIDUES: so many pairs (1, 1) by design 1, and of the residues only how many they are.
-use crate::answer::Answer;
-use crate::codes::u32_of;
-use crate::field::field_at;
+use crate::field::I64;
+use crate::field::u32_of;
 use crate::fields::Fields;
+use crate::fields::none;
 use crate::fields::read;
 use crate::lines;
-use crate::product_vectors::unsigned_answer;
+use crate::product_vectors::is_unsigned_due;
 use crate::row_vectors::LONGEST;
 use crate::row_vectors::ROOM;
 use crate::row_vectors::count_at;
@@ -42,36 +42,28 @@ f 2130706432 1073741824 10 0
     )
 }
 
-pub fn square(fields: Fields) -> Answer {
-    let a = u32_of(fields.d);
-    let product = unsigned_answer(
-        u32_of(fields.a),
-        u32_of(fields.b),
-        u32_of(fields.c),
-        a as u64,
-        a as u64,
-    );
-    Answer {
-        is_refused: product.is_refused,
-        refusal: product.refusal,
-        first: product.first,
-        second: std::num::wrapping_sub_u64(true_square(a), product.first),
-    }
+pub fn is_square(fields: Fields) -> bool {
+    let design = u32_of(fields.a);
+    let width = u32_of(fields.b);
+    let setting = u32_of(fields.c);
+    let given = products::unsigned_product(design, width, setting, fields.d, fields.d);
+    let residue = std::num::wrapping_sub_u64(true_square(u32_of(fields.d)), fields.f);
+    is_unsigned_due(given, fields.e, fields.f) & (residue == fields.g)
 }
 
 fn true_square(a: u32) -> u64 {
     a as u64 * a as u64
 }
 
-pub fn ones(line: &[u8]) -> bool {
+pub fn is_row_of_ones(line: &[u8]) -> bool {
     let ones = [1i16; ROOM];
     let count = count_at(line, 1);
-    are_scored(line, &ones[0..count])
+    is_scored(line, &ones[0..count])
 }
 
-fn are_scored(line: &[u8], ones: &[i16]) -> bool {
-    let due = read(line, field_at(line, 1, LONGEST).next, b'n', 7);
+fn is_scored(line: &[u8], ones: &[i16]) -> bool {
     let mut residues = [0i64; ROOM];
     let given = rows::score_row(1, 0, ones, ones, &mut residues);
-    is_due(given, ones.len() as u64, due) & (due.next == line.len())
+    let due = read(line, read(line, none(1), 1, LONGEST), 7, I64);
+    (due.next == line.len()) & is_due(given, ones.len() as u64, due)
 }

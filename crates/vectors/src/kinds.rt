@@ -1,6 +1,9 @@
-// Whether what the library gives is what a line says, by the line's kind. `n` and `q` are kinds of the figures alone.
-use crate::answer::is_due;
+// Whether what the library gives is what a line says, by the line's kind.
+use crate::field::I64;
+use crate::field::U32;
+use crate::field::U64;
 use crate::fields::Fields;
+use crate::fields::none;
 use crate::fields::read;
 use crate::figures;
 use crate::product_vectors;
@@ -11,28 +14,46 @@ use crate::store_vectors;
 
 pub fn is_right(line: &[u8], kind: u8) -> bool {
     match kind {
-        b'n' => figures::ones(line),
-        b'r' => row_vectors::row(line),
-        b'f' => is_answered(line, kind, 4),
-        b'h' | b't' => is_answered(line, kind, 6),
-        b'q' | b's' | b'u' => is_answered(line, kind, 7),
-        _ => false,
+        b'n' => figures::is_row_of_ones(line),
+        b'r' => row_vectors::is_row(line),
+        _ => is_met(line.len(), kind, fields_of(line, kind)),
     }
 }
 
-// A line of so many fields.
-fn is_answered(line: &[u8], kind: u8, count: usize) -> bool {
-    let fields = read(line, 1, kind, count);
-    (fields.next == line.len()) & is_answer(kind, fields)
+fn fields_of(line: &[u8], kind: u8) -> Fields {
+    match kind {
+        b'u' => read_all(line, 3, U32, 4, U64),
+        b's' => read_all(line, 3, U32, 4, I64),
+        b'q' => read_all(line, 4, U32, 3, U64),
+        b'h' => read_all(line, 1, I64, 5, U64),
+        b'f' => read_all(line, 4, U32, 0, U32),
+        b't' => read_all(line, 6, U64, 0, U64),
+        _ => none(0),
+    }
 }
 
-fn is_answer(kind: u8, fields: Fields) -> bool {
+// So many fields of one type, and so many of another.
+fn read_all(line: &[u8], count: usize, largest: u64, rest: usize, largest_of_rest: u64) -> Fields {
+    read(
+        line,
+        read(line, none(1), count, largest),
+        rest,
+        largest_of_rest,
+    )
+}
+
+// A line that is read has been read to its end.
+fn is_met(end: usize, kind: u8, fields: Fields) -> bool {
+    if fields.next != end {
+        return false;
+    }
     match kind {
-        b'u' => is_due(product_vectors::unsigned(fields), fields.f, fields.g, 0),
+        b'u' => product_vectors::is_unsigned(fields),
         b's' => product_vectors::is_signed(fields),
-        b'f' => is_due(single_vectors::single(fields), fields.f, fields.g, 0),
-        b'h' => is_due(score_vectors::score(fields), fields.e, fields.f, fields.g),
-        b'q' => is_due(figures::square(fields), fields.e, fields.f, fields.g),
-        _ => store_vectors::is_part(fields),
+        b'q' => figures::is_square(fields),
+        b'h' => score_vectors::is_score(fields),
+        b'f' => single_vectors::is_single(fields),
+        b't' => store_vectors::is_part(fields),
+        _ => false,
     }
 }

@@ -1,5 +1,5 @@
 // Goes through a text line by line and counts the lines of a group. The letter that a line starts with says of what kind it is.
-use crate::kinds;
+use crate::kinds::is_right;
 use crate::tally::Tally;
 
 pub const PRODUCTS: u8 = 0;
@@ -12,15 +12,16 @@ pub const SCORES: u8 = 3;
 
 pub const SINGLES: u8 = 4;
 
-// Every line, whatever its kind.
-pub const FIGURES: u8 = 5;
+// The other kinds.
+const NONE: u8 = 5;
 
-// Every line; it is right if it belongs to one of the first five groups.
-pub const INPUT: u8 = 6;
+// Every line.
+pub const FIGURES: u8 = 6;
 
-// No group that is counted.
-const NONE: u8 = 7;
+// Every line, and one of another kind than the first five groups have is wrong.
+pub const INPUT: u8 = 7;
 
+// A line feed ends each line, and a last line without one is wrong.
 pub fn count(text: &[u8], group: u8) -> Tally {
     let mut tally = Tally::new();
     let mut start = 0;
@@ -28,6 +29,9 @@ pub fn count(text: &[u8], group: u8) -> Tally {
         let end = bytes::scan::find(text, start, text.len(), b'\n');
         tally = with_line(tally, &text[start..end], group);
         start = end + 1;
+    }
+    if start != text.len() {
+        return tally.with(false);
     }
     tally
 }
@@ -39,7 +43,7 @@ fn with_line(tally: Tally, line: &[u8], group: u8) -> Tally {
         return tally.with(found != NONE);
     }
     if (group == FIGURES) | (group == found) {
-        return tally.with(kinds::is_right(line, kind));
+        return tally.with(is_right(line, kind));
     }
     tally
 }

@@ -1,13 +1,12 @@
 // Runs the figures of document 01, all pairs of the byte table and the vectors of standard input through the library, and prints
 // how many it compared and how many were wrong.
-mod answer;
-mod codes;
 mod field;
 mod fields;
 mod figures;
 mod kinds;
 mod lines;
 mod product_vectors;
+mod refusal;
 mod row_vectors;
 mod score_vectors;
 mod single_vectors;
@@ -20,8 +19,8 @@ mod tally;
 const CAPACITY: usize = 1048576;
 
 fn main() {
-    tally::print(b"figures: ", figures::run());
-    tally::print(b"table: ", table::run());
+    tally::print(b"figures: ", b" compared, ", figures::run());
+    tally::print(b"table: ", b" compared, ", table::run());
     let mut buffer = [0u8; CAPACITY];
     run(&mut buffer);
 }
@@ -31,23 +30,12 @@ fn run(buffer: &mut [u8; CAPACITY]) {
     read(buffer);
 }
 
+// An input that fills the buffer may have been cut off, and then nothing is counted.
 fn read(buffer: &mut [u8]) {
     let length = io::read_full(0, buffer);
-    if !is_whole(buffer, length) {
-        io::write_all(1, b"input: cut off\n");
+    if length < buffer.len() {
+        count(&buffer[..length]);
     }
-    count(&buffer[..length]);
-}
-
-// An input that fills the buffer may have been cut off, and one that does not end with a line has been.
-fn is_whole(buffer: &[u8], length: usize) -> bool {
-    if buffer.len() <= length {
-        return false;
-    }
-    if length == 0 {
-        return false;
-    }
-    buffer[length - 1] == b'\n'
 }
 
 fn count(input: &[u8]) {
@@ -56,9 +44,9 @@ fn count(input: &[u8]) {
     print(b"stores: ", input, lines::STORES);
     print(b"scores: ", input, lines::SCORES);
     print(b"singles: ", input, lines::SINGLES);
-    tally::print_units(b"input: ", b" lines, ", lines::count(input, lines::INPUT));
+    tally::print(b"input: ", b" lines, ", lines::count(input, lines::INPUT));
 }
 
 fn print(name: &[u8], input: &[u8], group: u8) {
-    tally::print(name, lines::count(input, group));
+    tally::print(name, b" compared, ", lines::count(input, group));
 }

@@ -1,19 +1,22 @@
 // Vectors of rows, DESIGN SETTING WEIGHTS FRAME PLACES REFUSAL SCORE TRUE ERROR T N RESIDUES after the kind `r`. WEIGHTS, FRAME and
 // RESIDUES are lists, each a length and so many numbers. PLACES is the length of the residue slice.
 ghost use Prim.Native.Nat.{_≤_};
-use crate::answer::is_refusal;
-use crate::codes::i64_of;
-use crate::codes::u32_of;
+use crate::field::I16;
 use crate::field::I64;
 use crate::field::U32;
 use crate::field::field_at;
-use crate::field::lost;
+use crate::field::i16_of;
+use crate::field::i64_of;
+use crate::field::next_if;
+use crate::field::u32_of;
 use crate::fields::Fields;
+use crate::fields::none;
 use crate::fields::read;
+use crate::refusal::is_refusal;
 use crate::slices::first;
 use rows::RowReport;
 
-// What a list or the residue slice has at most. A line that asks for more is not read.
+// The most that a list or the residue slice has. A line that asks for more is not read.
 pub const ROOM: usize = 4110;
 
 pub const LONGEST: u64 = 4110;
@@ -21,26 +24,15 @@ pub const LONGEST: u64 = 4110;
 // What each place of the residue slice holds before the call. No residue is so large.
 const MARK: i64 = 1000000000000;
 
-pub fn row(line: &[u8]) -> bool {
-    let design = field_at(line, 1, U32);
-    let setting = field_at(line, design.next, U32);
-    is_row(
-        line,
-        setting.next,
-        u32_of(design.code),
-        u32_of(setting.code),
-    )
-}
-
-// The slices of the call have exactly the lengths that the line says.
-fn is_row(line: &[u8], start: usize, design: u32, setting: u32) -> bool {
+pub fn is_row(line: &[u8]) -> bool {
     let mut weights = [0i16; ROOM];
     let mut frame = [0i16; ROOM];
-    let second = read_list(line, start, &mut weights);
-    let rest = read_list(line, second, &mut frame);
-    let n = count_at(line, start);
+    let head = read(line, none(1), 2, U32);
+    let second = read_list(line, head.next, &mut weights);
+    let third = read_list(line, second, &mut frame);
+    let n = count_at(line, head.next);
     let m = count_at(line, second);
-    is_scored(line, rest, design, setting, &weights, n, &frame, m)
+    is_scored(line, third, head, &weights, n, &frame, m)
 }
 
 // The length that stands there, 0 where none is read.
@@ -60,66 +52,52 @@ fn read_list(line: &[u8], start: usize, elements: &mut [i16; ROOM]) -> usize {
     let mut next = field_at(line, start, LONGEST).next;
     let mut i = 0;
     while i < count {
-        let field = element_at(line, next);
-        let element = field.value;
-        elements[i] = element;
+        let field = field_at(line, next, I16);
+        elements[i] = i16_of(field.code);
         next = field.next;
         i += 1;
     }
     next
 }
 
-struct Element {
-    value: i16,
-    next: usize,
-}
-
-fn element_at(line: &[u8], start: usize) -> Element {
-    let field = field_at(line, start, I64);
-    let code = field.code;
-    let next = field.next;
-    if code < 32768 {
-        let value = code as i16;
-        return Element { value, next };
-    }
-    if u64::MAX - code < 32768 {
-        let value = !((u64::MAX - code) as i16);
-        return Element { value, next };
-    }
-    let next = lost().next;
-    Element { value: 0, next }
-}
-
+// The slices of the call have exactly the lengths that the line says.
 fn is_scored(
     line: &[u8],
     start: usize,
-    design: u32,
-    setting: u32,
+    head: Fields,
     weights: &[i16; ROOM],
     n: usize,
     frame: &[i16; ROOM],
     m: usize,
 ) -> bool {
     let count = count_at(line, start);
-    let due = read(line, field_at(line, start, LONGEST).next, b'r', 7);
     let mut places = [MARK; ROOM];
     let given = rows::score_row(
-        design,
-        setting,
+        u32_of(head.f),
+        u32_of(head.g),
         first(weights, n),
         first(frame, m),
         &mut places[0..count],
     );
-    is_due(given, n as u64, due) & are_due(line, due.next, due.g, &places)
+    are_given(line, start, given, n as u64, &places)
+}
+
+fn are_given(
+    line: &[u8],
+    start: usize,
+    given: rows::Scored,
+    pairs: u64,
+    places: &[i64; ROOM],
+) -> bool {
+    let due = read(line, read(line, none(start), 1, LONGEST), 7, I64);
+    is_due(given, pairs, due) & are_due(line, due.next, due.g, places)
 }
 
 // Where the refusal is 0 the report is due, and a residue for each pair, and otherwise that very refusal, zeros and no residue.
 pub fn is_due(given: rows::Scored, pairs: u64, due: Fields) -> bool {
     match given {
         rows::Scored::Report(report) => (due.a == 0) & is_report(report, pairs, due),
-        rows::Scored::Refused(number) => {
-            is_refusal(number, due.a) & is_report(nothing(), 0, due)
-        }
+        rows::Scored::Refused(number) => is_refusal(number, due.a) & is_report(nothing(), 0, due),
     }
 }
 
@@ -156,15 +134,8 @@ fn are_due(line: &[u8], start: usize, count: u64, places: &[i64; ROOM]) -> bool 
 // Where the next residue starts, if the place holds what is due there.
 fn after(line: &[u8], start: usize, place: i64, is_residue: bool) -> usize {
     if !is_residue {
-        return start_if(place == MARK, start);
+        return next_if(place == MARK, start);
     }
     let residue = field_at(line, start, I64);
-    start_if(place == i64_of(residue.code), residue.next)
-}
-
-fn start_if(is_right: bool, start: usize) -> usize {
-    if is_right {
-        return start;
-    }
-    lost().next
+    next_if(place == i64_of(residue.code), residue.next)
 }

@@ -1,31 +1,29 @@
-// Vectors of scores that are handed out, SCORE T SHIFT REFUSAL SCOREBITS TBITS after the kind `h`.
-use crate::answer::Answer;
-use crate::codes::i64_of;
-use crate::codes::u32_of;
+// Vectors of scores that are handed out, SCORE T SHIFT REFUSAL SCOREBITS TBITS after the kind `h`. Where the refusal is 0 both
+// patterns are due, and otherwise that very refusal, and 0 in their place.
+use crate::field::U32;
+use crate::field::i64_of;
+use crate::field::u32_of;
 use crate::fields::Fields;
+use crate::refusal::is_refusal;
 
-pub fn score(fields: Fields) -> Answer {
-    let scaled = scores::scale(i64_of(fields.b), fields.c, u32_of(fields.d));
-    match scaled {
-        scores::Scaled::Values(values) => Answer {
-            is_refused: false,
-            refusal: 0,
-            first: bits(values.score),
-            second: bits(values.magnitude_sum),
-        },
-        scores::Scaled::Refused(refusal) => Answer {
-            is_refused: true,
-            refusal,
-            first: 0,
-            second: 0,
-        },
+pub fn is_score(fields: Fields) -> bool {
+    let given = scores::scale(i64_of(fields.b), fields.c, u32_of(fields.d));
+    (fields.d <= U32) & is_due(given, fields.e, fields.f, fields.g)
+}
+
+fn is_due(given: scores::Scaled, refusal: u64, score: u64, sum: u64) -> bool {
+    match given {
+        scores::Scaled::Values(values) => {
+            (refusal == 0) & is_pattern(score, values.score) & is_pattern(sum, values.magnitude_sum)
+        }
+        scores::Scaled::Refused(number) => is_refusal(number, refusal) & (score == 0) & (sum == 0),
     }
 }
 
-// By bits −0 differs from +0. All bits stand for a NaN, which has many patterns and is never due.
-fn bits(value: f64) -> u64 {
+// By patterns −0 differs from +0. A NaN, which has many, is never due.
+fn is_pattern(pattern: u64, value: f64) -> bool {
     if value != value {
-        return u64::MAX;
+        return false;
     }
-    f64::to_bits(value)
+    f64::to_bits(value) == pattern
 }

@@ -1,22 +1,17 @@
-// Vectors of single products, A B REFUSAL BITS after the kind `f`.
-use crate::answer::Answer;
-use crate::codes::u32_of;
+// Vectors of single products, A B REFUSAL BITS after the kind `f`. Where the refusal is 0 the pattern is due, and otherwise that very
+// refusal, and 0 in the pattern's place.
+use crate::field::u32_of;
 use crate::fields::Fields;
+use crate::refusal::is_refusal;
 
-pub fn single(fields: Fields) -> Answer {
-    let product = floats::bits(floats::single_product(u32_of(fields.d), u32_of(fields.e)));
-    match product {
-        floats::Pattern::Value(bits) => Answer {
-            is_refused: false,
-            refusal: 0,
-            first: bits as u64,
-            second: 0,
-        },
-        floats::Pattern::Refused(refusal) => Answer {
-            is_refused: true,
-            refusal,
-            first: 0,
-            second: 0,
-        },
+pub fn is_single(fields: Fields) -> bool {
+    let given = floats::single_product(u32_of(fields.d), u32_of(fields.e));
+    is_due(floats::bits(given), fields.f, fields.g)
+}
+
+fn is_due(given: floats::Pattern, refusal: u64, bits: u64) -> bool {
+    match given {
+        floats::Pattern::Value(pattern) => (refusal == 0) & (pattern as u64 == bits),
+        floats::Pattern::Refused(number) => is_refusal(number, refusal) & (bits == 0),
     }
 }

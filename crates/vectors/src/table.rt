@@ -1,6 +1,5 @@
 // The byte table against design 1 at width 8, over all pairs of bytes.
-use crate::answer::is_due;
-use crate::product_vectors::unsigned_answer;
+use crate::product_vectors::is_unsigned_due;
 use crate::tally::Tally;
 
 pub fn run() -> Tally {
@@ -14,6 +13,10 @@ pub fn run() -> Tally {
 }
 
 fn is_same(a: u8, b: u8) -> bool {
-    let answer = unsigned_answer(1, 8, 0, a as u64, b as u64);
-    is_due(answer, 0, byte_table::table_product(a, b) as u64, 0)
+    let product = byte_table::table_product(a, b);
+    is_unsigned_due(
+        products::unsigned_product(1, 8, 0, a as u64, b as u64),
+        0,
+        product as u64,
+    )
 }

@@ -21,11 +21,7 @@ impl Tally {
     }
 }
 
-pub fn print(name: &[u8], tally: Tally) {
-    print_units(name, b" compared, ", tally);
-}
-
-pub fn print_units(name: &[u8], unit: &[u8], tally: Tally) {
+pub fn print(name: &[u8], unit: &[u8], tally: Tally) {
     io::write_all(1, name);
     io::print_decimal(1, tally.compared);
     io::write_all(1, unit);

@@ -6,10 +6,10 @@ use Rattle.vectors.proofs.field.digits.Statement.{statement}
 use Rattle.vectors.proofs.field.digits.Tie as tie
 
 abbrev Inv-loop : tie.InvT-loop
-Inv-loop text largest end field₀ i₀ field i = Unit {0}
+Inv-loop text largest end next field₀ i₀ field i = Unit {0}
 
 abbrev μ-loop : tie.MeasureT-loop
-μ-loop text largest end field₀ i₀ field i = length text - i
+μ-loop text largest end next field₀ i₀ field i = length text - i
 
 pub digits-spec : {M : Type 1} → statement M
 digits-spec =
@@ -17,6 +17,7 @@ digits-spec =
     (tie.spec
     Inv-loop
     μ-loop
+    (λ c κs. search needs)
     (λ c. search needs)
     (λ c. search needs)
     (λ c κs. search needs)

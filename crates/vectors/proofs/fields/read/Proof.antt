@@ -5,10 +5,10 @@ use Rattle.vectors.proofs.fields.read.Statement.{statement}
 use Rattle.vectors.proofs.fields.read.Tie as tie
 
 abbrev Inv-loop : tie.InvT-loop
-Inv-loop line start kind count fields₀ i₀ fields i = Unit {0}
+Inv-loop line count largest fields₀ i₀ fields i = Unit {0}
 
 abbrev μ-loop : tie.MeasureT-loop
-μ-loop line start kind count fields₀ i₀ fields i = count - i
+μ-loop line count largest fields₀ i₀ fields i = count - i
 
 pub read-spec : {M : Type 1} → statement M
 read-spec =
@@ -17,7 +17,6 @@ read-spec =
     Inv-loop
     μ-loop
     (λ c. search needs)
-    (λ c κs. search needs)
     (λ c κs. search needs)
     (λ c κs. search needs)
     (λ c. search needs)

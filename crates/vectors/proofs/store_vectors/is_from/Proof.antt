@@ -7,10 +7,10 @@ use Rattle.vectors.proofs.store_vectors.is_from.Statement.{statement}
 use Rattle.vectors.proofs.store_vectors.is_from.Tie as tie
 
 abbrev Inv-loop : tie.InvT-loop
-Inv-loop part start count is-right₀ i₀ is-right i = Unit {0}
+Inv-loop part start place₀ i₀ place i = Unit {0}
 
 abbrev μ-loop : tie.MeasureT-loop
-μ-loop part start count is-right₀ i₀ is-right i = length part - i
+μ-loop part start place₀ i₀ place i = length part - i
 
 pub is-from-spec : {M : Type 1} → statement M
 is-from-spec =
@@ -21,7 +21,6 @@ is-from-spec =
     (λ c. search needs)
     (λ c. search needs)
     (λ c. search needs)
-    (λ c κs. search needs)
     (λ c κs. search needs)
     (λ c. search needs)
     (λ c. search needs)
