@@ -105,27 +105,21 @@ module _ (D : Design) (w x : ℤ) where
     abbrev P : ℤ
     P = pos (product D (natAbs w) (natAbs x))
 
-    -- below 0 it is taken off a score, and added for the residue
+    -- below 0 it is added to the true product
     module _ (minus : negative (w *ℤ x) ≡ true) where
       minus-is : signedProduct D w x ≡ negℤ P
       unfolding signedProduct
       minus-is = rw (minus-sign sign (natAbs w * natAbs x) (rw (true-is w x) at minus)) refl
 
-      pub minus-score : (s : ℤ) → s -ℤ P ≡ s +ℤ signedProduct D w x
-      minus-score s = ap (λ (z : ℤ). s +ℤ z) (sym minus-is)
-
       pub minus-residue : w *ℤ x +ℤ P ≡ residue D w x
       unfolding residue
       minus-residue = ap (λ (z : ℤ). w *ℤ x +ℤ z) (sym (negℤ-negℤ P)) ∙ ap (λ (z : ℤ). w *ℤ x -ℤ z) (sym minus-is)
 
-    -- above 0 it is added, and taken off
+    -- above 0 it is taken off
     module _ (plus : negative (w *ℤ x) ≡ false) where
       plus-is : signedProduct D w x ≡ P
       unfolding signedProduct
       plus-is = rw (plus-sign sign (natAbs w * natAbs x) (some (natAbs w) (natAbs x) full .0) (rw (true-is w x) at plus)) refl
-
-      pub plus-score : (s : ℤ) → s +ℤ P ≡ s +ℤ signedProduct D w x
-      plus-score s = ap (λ (z : ℤ). s +ℤ z) (sym plus-is)
 
       pub plus-residue : w *ℤ x -ℤ P ≡ residue D w x
       unfolding residue

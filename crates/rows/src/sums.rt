@@ -5,8 +5,8 @@ ghost use lib.ListN.{length, set};
 ghost use Rattle.rows.specs.Answers.{Ready, Summed};
 use crate::RowReport;
 
-// Goes over the pairs once. Each place of `residues` is written when its pair is scored. The pairs with a zero are counted, since they
-// are few.
+// Goes over the pairs once. Each place of `residues` is written when its pair is scored. The loop keeps the fewest sums: the error is
+// the sum of the residues, and the score is what it leaves of the true sum. The pairs with a zero are counted, since they are few.
 pub(crate) fn accumulate(
     design: u32,
     setting: u32,
@@ -17,9 +17,9 @@ pub(crate) fn accumulate(
     requires { ⌜ Ready design setting (now weights) (now frame) (now residues) ⌝ }
     ensures { λ r. ⌜ Summed design setting (now (weights .entry)) (now (frame .entry)) (now (residues .entry)) (now (residues .exit)) r ⌝ }
 {
-    let mut score: i64 = 0;
     let mut true_sum: i64 = 0;
-    let mut magnitude_sum: u64 = 0;
+    let mut minus_sum: i64 = 0;
+    let mut error: i64 = 0;
     let mut zeros: u64 = 0;
     let mut i = 0;
     while i < weights.len() {
@@ -36,21 +36,23 @@ pub(crate) fn accumulate(
             true_sum += truth;
             // both products have the sign of the true one
             if truth < 0 {
-                score -= product;
-                magnitude_sum += signs::magnitude(truth);
-                write(residues, at, truth + product);
+                minus_sum += truth;
+                let residue = truth + product;
+                error += residue;
+                write(residues, at, residue);
             } else {
-                score += product;
-                magnitude_sum += signs::magnitude(truth);
-                write(residues, at, truth - product);
+                let residue = truth - product;
+                error += residue;
+                write(residues, at, residue);
             }
         }
     }
     RowReport {
-        score,
+        score: true_sum - error,
         true_sum,
-        error: true_sum - score,
-        magnitude_sum,
+        error,
+        // the true products below 0 count by their sizes
+        magnitude_sum: (true_sum - minus_sum - minus_sum) as u64,
         nonzero_pairs: weights.len() as u64 - zeros,
     }
 }

@@ -15,23 +15,23 @@ use lib.ListN.{length, getD, set}
 use lib.Signed.{ltZ}
 use mir.Syntax.{w16, w64}
 use mir.Val.{SFits, toZ, ofZ}
-use mir.Facts.{toZ-ofZ}
+use mir.Facts.{toZ-ofZ, fits-natAbs}
 use Rattle.designs.specs.Designs.{Design, product}
 use Rattle.designs.specs.Products.{designOf}
 use Rattle.designs.specs.Rows.{nonzero}
 use Rattle.designs.specs.Signs.{negative, signedProduct, residue}
 use Rattle.signs.proofs.Integers.{fits-as, read-back, sized, tested}
-use Rattle.rows.proofs.Pair.{Bounds, bounds, counted, minus-residue, minus-score, plus-residue, plus-score, zero-pair}
-use Rattle.rows.proofs.SoFar.{SoFar, start, next, equally, finished, finished-residues}
+use Rattle.rows.proofs.Pair.{Bounds, bounds, counted, minus-residue, plus-residue, zero-pair}
+use Rattle.rows.proofs.SoFar.{SoFar, below, below-minus, below-plus, start, next, equally, finished, finished-residues, half-size, score-is}
 use Rattle.rows.proofs.sums.accumulate.Statement.{statement}
 use Rattle.rows.proofs.sums.accumulate.Tie as tie
 
 abbrev Inv-loop : tie.InvT-loop
-Inv-loop design setting weights frame residues₀ score₀ true-sum₀ magnitude-sum₀ zeros₀ i₀ residues score true-sum magnitude-sum zeros i =
-    (zeros ≤ i) × SoFar (designOf design setting) weights frame residues₀ residues i (toZ w64 score) (toZ w64 true-sum) magnitude-sum (i - zeros)
+Inv-loop design setting weights frame residues₀ true-sum₀ minus-sum₀ error₀ zeros₀ i₀ residues true-sum minus-sum error zeros i =
+    (zeros ≤ i) × SoFar (designOf design setting) weights frame residues₀ residues i (toZ w64 true-sum) (toZ w64 minus-sum) (toZ w64 error) (i - zeros)
 
 abbrev μ-loop : tie.MeasureT-loop
-μ-loop design setting weights frame residues₀ score₀ true-sum₀ magnitude-sum₀ zeros₀ i₀ residues score true-sum magnitude-sum zeros i =
+μ-loop design setting weights frame residues₀ true-sum₀ minus-sum₀ error₀ zeros₀ i₀ residues true-sum minus-sum error zeros i =
     length weights - i
 
 loop-holds : tie.Need-loop-holds Inv-loop μ-loop
@@ -60,19 +60,22 @@ x c = getD (entry c .args .frame .now) (i c) (pos 0)
 abbrev residue-of : Turn → ℤ
 residue-of c = residue (D c) (w c) (x c)
 
-abbrev scored : Turn → ℤ
-scored c = toZ w64 (c .before .before .before .loop .score) +ℤ signedProduct (D c) (w c) (x c)
-
 abbrev summed : Turn → ℤ
 summed c = toZ w64 (c .before .before .before .loop .true-sum) +ℤ w c *ℤ x c
+
+abbrev lowered : Turn → ℤ
+lowered c = toZ w64 (c .before .before .before .loop .minus-sum) +ℤ below (w c *ℤ x c)
+
+abbrev erred : Turn → ℤ
+erred c = toZ w64 (c .before .before .before .loop .error) +ℤ residue-of c
 
 abbrev written : Turn → ℤ → List ℤ
 written c z = set (c .before .before .before .loop .residues) (i c) z
 
 -- what is claimed of numbers after it
-abbrev Then : Turn → List ℤ → ℤ → ℤ → ℕ → ℕ → Type 0
-Then c after score trueSum T n =
-    SoFar (D c) (entry c .args .weights .now) (entry c .args .frame .now) (entry c .args .residues .now) after (i c + 1) score trueSum T n
+abbrev Then : Turn → List ℤ → ℤ → ℤ → ℤ → ℕ → Type 0
+Then c after trueSum minus error n =
+    SoFar (D c) (entry c .args .weights .now) (entry c .args .frame .now) (entry c .args .residues .now) after (i c + 1) trueSum minus error n
 
 module _ (c : Turn) where
   w-fits : SFits w16 (w c)
@@ -84,15 +87,17 @@ module _ (c : Turn) where
   small : Bounds (D c) (w c) (x c)
   small = bounds (D c) (w c) (x c) (entry c .pre .keeps) w-fits x-fits
 
-  next-at : Then c (written c (residue-of c)) (scored c) (summed c) (c .before .before .before .loop .magnitude-sum + natAbs (w c *ℤ x c))
-      (i c - c .before .before .before .loop .zeros + nonzero (w c) (x c))
+  next-at : Then c (written c (residue-of c)) (summed c) (lowered c) (erred c) (i c - c .before .before .before .loop .zeros + nonzero (w c) (x c))
   next-at = next (D c) _ _ _ _ (i c) _ _ _ _ (omega arith) (entry c .pre .lengths) (entry c .pre .places) (c .before .before .before .loop .inv .1) small
-
-  score-fits : SFits w64 (scored c)
-  score-fits = sized _ (omega (arith, next-at .score-size, next-at .within, entry c .pre .pairs))
 
   true-fits : SFits w64 (summed c)
   true-fits = sized _ (omega (arith, next-at .true-size, next-at .within, entry c .pre .pairs))
+
+  minus-fits : SFits w64 (lowered c)
+  minus-fits = sized _ (omega (arith, next-at .minus-size, next-at .within, entry c .pre .pairs))
+
+  error-fits : SFits w64 (erred c)
+  error-fits = sized _ (omega (arith, next-at .error-size, next-at .within, entry c .pre .pairs))
 
   residue-fits : SFits w64 (residue-of c)
   residue-fits = sized _ (omega (arith, small .residue-size))
@@ -123,9 +128,9 @@ loop-again c =
     let zero = zero-at (c .before .before .before) in
     let none = zero-pair (D turn) (w turn) (x turn) zero in (
       omega (arith, loop .inv .0),
-      equally (c .before .write .ensures ∙ ap (written turn) (sym (none .residue-is)))
-          (nothing (toZ w64 (loop .score)) (none .product-is)) (nothing (toZ w64 (loop .true-sum)) (none .truth-is))
-          (sym (ap (λ (z : ℤ). loop .magnitude-sum + natAbs z) (none .truth-is) ∙ add-zero _)) (omega (arith, zero)) (next-at turn),
+      equally (c .before .write .ensures ∙ ap (written turn) (sym (none .residue-is))) (nothing (toZ w64 (loop .true-sum)) (none .truth-is))
+          (nothing (toZ w64 (loop .minus-sum)) (ap below (none .truth-is))) (nothing (toZ w64 (loop .error)) (none .residue-is)) (omega (arith, zero))
+          (next-at turn),
     )
   where
     nothing : {p : ℤ} (sum : ℤ) → p ≡ pos 0 → sum ≡ sum +ℤ p
@@ -167,22 +172,21 @@ module _ (c : Full) where
       read-back _ (c .product-of-sizes .ok)
       ∙ (simp (toZ-ofZ (w-fits (turn-of c)), toZ-ofZ (x-fits (turn-of c)), entry (turn-of c) .pre .serves) at (c .product-of-sizes .ensures))
 
-  sum-fits : (m : ℕ) → m ≡ natAbs (truth c) → turn-of c .before .before .before .loop .magnitude-sum + m < 2 ^ 64
-  sum-fits m e =
-      omega (arith, next-at (turn-of c) .magnitude-size, next-at (turn-of c) .within, entry (turn-of c) .pre .pairs, e, ap natAbs truth-back)
+  -- the error with a residue z, if that is the one that is meant
+  erred-is : {z : ℤ} → z ≡ residue-of (turn-of c) → toZ w64 (turn-of c .before .before .before .loop .error) +ℤ back z ≡ erred (turn-of c)
+  erred-is e = ap (λ (r : ℤ). toZ w64 (turn-of c .before .before .before .loop .error) +ℤ r) (ap back e ∙ toZ-ofZ (residue-fits (turn-of c)))
 
-  -- the next turn goes on with the code's numbers, if its score and its residue are those that are meant
-  on : {after : List ℤ} {score z : ℤ} {m : ℕ} → after ≡ written (turn-of c) (back z) → z ≡ residue-of (turn-of c) → score ≡ scored (turn-of c)
-      → m ≡ natAbs (truth c) → (turn-of c .before .before .before .loop .zeros ≤ i (turn-of c) + 1)
-      × Then (turn-of c) after (back score) (back (toZ w64 (turn-of c .before .before .before .loop .true-sum) +ℤ truth c))
-      (turn-of c .before .before .before .loop .magnitude-sum + m) (i (turn-of c) + 1 - turn-of c .before .before .before .loop .zeros)
-  on ea er es em =
+  -- the next turn then goes on with the code's numbers
+  on : {after : List ℤ} {m z : ℤ} → after ≡ written (turn-of c) (back z) → z ≡ residue-of (turn-of c) → m ≡ lowered (turn-of c)
+      → (turn-of c .before .before .before .loop .zeros ≤ i (turn-of c) + 1)
+      × Then (turn-of c) after (back (toZ w64 (turn-of c .before .before .before .loop .true-sum) +ℤ truth c)) m
+      (back (toZ w64 (turn-of c .before .before .before .loop .error) +ℤ back z)) (i (turn-of c) + 1 - turn-of c .before .before .before .loop .zeros)
+  on ea er em =
       let loop = turn-of c .before .before .before .loop in (
         omega (arith, loop .inv .0),
-        equally (ea ∙ ap (λ (z : ℤ). written (turn-of c) (back z)) er ∙ ap (written (turn-of c)) (toZ-ofZ (residue-fits (turn-of c))))
-            (ap back es ∙ toZ-ofZ (score-fits (turn-of c)))
-            (ap (λ (z : ℤ). back (toZ w64 (loop .true-sum) +ℤ z)) truth-back ∙ toZ-ofZ (true-fits (turn-of c)))
-            (ap (λ (k : ℕ). loop .magnitude-sum + k) (em ∙ ap natAbs truth-back))
+        equally (ea ∙ ap (written (turn-of c)) (ap back er ∙ toZ-ofZ (residue-fits (turn-of c))))
+            (ap (λ (z : ℤ). back (toZ w64 (loop .true-sum) +ℤ z)) truth-back ∙ toZ-ofZ (true-fits (turn-of c))) em
+            (ap back (erred-is er) ∙ toZ-ofZ (error-fits (turn-of c)))
             (omega (arith, loop .inv .0, counted (D (turn-of c)) (w (turn-of c)) (x (turn-of c)) full-at)) (next-at (turn-of c)),
       )
 
@@ -192,14 +196,13 @@ product-of-sizes-requires c κs = c .before .before .before .before .before .bef
 add-true-sum : tie.Need-add-true-sum Inv-loop μ-loop
 add-true-sum c = fits-as (ap (λ (z : ℤ). toZ w64 (turn-of c .before .before .before .loop .true-sum) +ℤ z) (truth-back c)) (true-fits (turn-of c))
 
--- a true product below 0: the design's is taken off the score
+-- a true product below 0 goes to both sums, and the design's is added to it
 module _ (c : tie.Then2 Inv-loop μ-loop) where
-  less-score : toZ w64 (turn-of (c .before) .before .before .before .loop .score) -ℤ back (c .before .product-of-sizes .result) ≡ scored (turn-of (c .before))
-  less-score =
+  minus-is : toZ w64 (turn-of (c .before) .before .before .before .loop .minus-sum) +ℤ truth (c .before) ≡ lowered (turn-of (c .before))
+  minus-is =
       let turn = turn-of (c .before) in
-      let score = toZ w64 (turn .before .before .before .loop .score) in
-      ap (λ (z : ℤ). score -ℤ z) (product-back (c .before))
-      ∙ minus-score (D turn) (w turn) (x turn) (full-at (c .before)) (sign-is (c .before) (c .if2 .taken)) score
+      ap (λ (z : ℤ). toZ w64 (turn .before .before .before .loop .minus-sum) +ℤ z)
+      (truth-back (c .before) ∙ sym (below-minus (w turn *ℤ x turn) (sign-is (c .before) (c .if2 .taken))))
 
   more-residue : truth (c .before) +ℤ back (c .before .product-of-sizes .result) ≡ residue-of (turn-of (c .before))
   more-residue =
@@ -207,64 +210,84 @@ module _ (c : tie.Then2 Inv-loop μ-loop) where
       ap₂ _+ℤ_ (truth-back (c .before)) (product-back (c .before))
       ∙ minus-residue (D turn) (w turn) (x turn) (full-at (c .before)) (sign-is (c .before) (c .if2 .taken))
 
-sub-score : tie.Need-sub-score Inv-loop μ-loop
-sub-score c = fits-as (less-score c) (score-fits (turn-of (c .before)))
+add-minus-sum : tie.Need-add-minus-sum Inv-loop μ-loop
+add-minus-sum c = fits-as (minus-is c) (minus-fits (turn-of (c .before)))
 
-add-magnitude-sum : tie.Need-add-magnitude-sum Inv-loop μ-loop
-add-magnitude-sum c = record { fits = sum-fits (c .before .before) (c .magnitude .result) (c .magnitude .ensures) }
+add-residue : tie.Need-add-residue Inv-loop μ-loop
+add-residue c = fits-as (more-residue c) (residue-fits (turn-of (c .before)))
 
-add-write : tie.Need-add-write Inv-loop μ-loop
-add-write c = fits-as (more-residue (c .before .before)) (residue-fits (turn-of (c .before .before .before)))
+add-error : tie.Need-add-error Inv-loop μ-loop
+add-error c = fits-as (erred-is (c .before) (more-residue c)) (error-fits (turn-of (c .before)))
 
 write-requires-2 : tie.Need-write-requires-2 Inv-loop μ-loop
-write-requires-2 c κs = place (turn-of (c .before .before .before))
+write-requires-2 c κs = place (turn-of (c .before .before))
 
 loop-again-2 : tie.Need-loop-again-2 Inv-loop μ-loop
 loop-again-2 c =
-    let minus = c .before .before .before .before in
-    on (minus .before) (c .before .write2 .ensures) (more-residue minus) (less-score minus) (c .before .before .before .magnitude .ensures)
+    let minus = c .before .before .before in
+    on (minus .before) (c .before .write2 .ensures) (more-residue minus) (ap back (minus-is minus) ∙ toZ-ofZ (minus-fits (turn-of (minus .before))))
 
--- a true product above 0: the design's is added to it
-module _ (c : tie.Else2 Inv-loop μ-loop) where
-  more-score : toZ w64 (turn-of (c .before) .before .before .before .loop .score) +ℤ back (c .before .product-of-sizes .result) ≡ scored (turn-of (c .before))
-  more-score =
-      let turn = turn-of (c .before) in
-      let score = toZ w64 (turn .before .before .before .loop .score) in
-      ap (λ (z : ℤ). score +ℤ z) (product-back (c .before))
-      ∙ plus-score (D turn) (w turn) (x turn) (full-at (c .before)) (sign-is (c .before) (c .if2 .left)) score
+-- from a true product above 0 the design's is taken off
+less-residue : (c : tie.Else2 Inv-loop μ-loop) → truth (c .before) -ℤ back (c .before .product-of-sizes .result) ≡ residue-of (turn-of (c .before))
+less-residue c =
+    let turn = turn-of (c .before) in
+    ap₂ _-ℤ_ (truth-back (c .before)) (product-back (c .before))
+    ∙ plus-residue (D turn) (w turn) (x turn) (full-at (c .before)) (sign-is (c .before) (c .if2 .left))
 
-  less-residue : truth (c .before) -ℤ back (c .before .product-of-sizes .result) ≡ residue-of (turn-of (c .before))
-  less-residue =
-      let turn = turn-of (c .before) in
-      ap₂ _-ℤ_ (truth-back (c .before)) (product-back (c .before))
-      ∙ plus-residue (D turn) (w turn) (x turn) (full-at (c .before)) (sign-is (c .before) (c .if2 .left))
+sub-residue : tie.Need-sub-residue Inv-loop μ-loop
+sub-residue c = fits-as (less-residue c) (residue-fits (turn-of (c .before)))
 
-add-score : tie.Need-add-score Inv-loop μ-loop
-add-score c = fits-as (more-score c) (score-fits (turn-of (c .before)))
-
-add-magnitude-sum-2 : tie.Need-add-magnitude-sum-2 Inv-loop μ-loop
-add-magnitude-sum-2 c = record { fits = sum-fits (c .before .before) (c .magnitude2 .result) (c .magnitude2 .ensures) }
-
-sub-write : tie.Need-sub-write Inv-loop μ-loop
-sub-write c = fits-as (less-residue (c .before .before)) (residue-fits (turn-of (c .before .before .before)))
+add-error-2 : tie.Need-add-error-2 Inv-loop μ-loop
+add-error-2 c = fits-as (erred-is (c .before) (less-residue c)) (error-fits (turn-of (c .before)))
 
 write-requires-3 : tie.Need-write-requires-3 Inv-loop μ-loop
-write-requires-3 c κs = place (turn-of (c .before .before .before))
+write-requires-3 c κs = place (turn-of (c .before .before))
 
 loop-again-3 : tie.Need-loop-again-3 Inv-loop μ-loop
 loop-again-3 c =
-    let plus = c .before .before .before .before in
-    on (plus .before) (c .before .write3 .ensures) (less-residue plus) (more-score plus) (c .before .before .before .magnitude2 .ensures)
+    let plus = c .before .before .before in
+    let turn = turn-of (plus .before) in
+    let minus = toZ w64 (turn .before .before .before .loop .minus-sum) in
+    on (plus .before) (c .before .write3 .ensures) (less-residue plus)
+    (sym (ap (λ (z : ℤ). minus +ℤ z) (below-plus (w turn *ℤ x turn) (sign-is (plus .before) (plus .if2 .left))) ∙ +ℤ-idr minus))
 
 -- when every pair has been scored
-error-fits : (c : tie.After-loop Inv-loop μ-loop) → SFits w64 (toZ w64 (c .before .loop .true-sum) -ℤ toZ w64 (c .before .loop .score))
-error-fits c = sized _ (omega (arith, c .before .loop .inv .1 .error-size, c .before .loop .inv .1 .within, c .before .before .pre .pairs))
+module _ (c : tie.After-loop Inv-loop μ-loop) where
+  abbrev trueSum : ℤ
+  trueSum = toZ w64 (c .before .loop .true-sum)
+
+  abbrev minusSum : ℤ
+  minusSum = toZ w64 (c .before .loop .minus-sum)
+
+  few : c .before .loop .i ≤ 4096
+  few = omega (arith, c .before .loop .inv .1 .within, c .before .before .pre .pairs)
+
+  score-fits : SFits w64 (trueSum -ℤ toZ w64 (c .before .loop .error))
+  score-fits = fits-as (score-is (c .before .loop .inv .1)) (sized _ (omega (arith, c .before .loop .inv .1 .score-size, few)))
+
+  half-fits : SFits w64 (trueSum -ℤ minusSum)
+  half-fits = sized _ (omega (arith, half-size (c .before .loop .inv .1), few))
+
+  turned-is : back (trueSum -ℤ minusSum) -ℤ minusSum ≡ trueSum -ℤ minusSum -ℤ minusSum
+  turned-is = ap (λ (z : ℤ). z -ℤ minusSum) (toZ-ofZ half-fits)
+
+  turned-fits : SFits w64 (trueSum -ℤ minusSum -ℤ minusSum)
+  turned-fits = fits-as (c .before .loop .inv .1 .magnitude-is) (sized _ (omega (arith, c .before .loop .inv .1 .magnitude-size, few)))
+
+sub-t34 : tie.Need-sub-t34 Inv-loop μ-loop
+sub-t34 c = score-fits c
+
+sub-t35 : tie.Need-sub-t35 Inv-loop μ-loop
+sub-t35 c = half-fits c
 
 sub-t36 : tie.Need-sub-t36 Inv-loop μ-loop
-sub-t36 c = error-fits c
+sub-t36 c = fits-as (turned-is c) (turned-fits c)
 
-sub-t39 : tie.Need-sub-t39 Inv-loop μ-loop
-sub-t39 c = omega (arith, c .before .loop .inv .0, c .before .loop .inv .1 .within)
+cast-t37 : tie.Need-cast-t37 Inv-loop μ-loop
+cast-t37 c = rw (turned-is c, toZ-ofZ (turned-fits c)) (rw (c .before .loop .inv .1 .magnitude-is) tt, fits-natAbs tt (turned-fits c))
+
+sub-t40 : tie.Need-sub-t40 Inv-loop μ-loop
+sub-t40 c = omega (arith, c .before .loop .inv .0, c .before .loop .inv .1 .within)
 
 same-length : tie.Need-same-length Inv-loop μ-loop
 same-length c = c .before .loop .inv .1 .same
@@ -273,19 +296,17 @@ returns : tie.Need-returns Inv-loop μ-loop
 returns c =
     let at = c .before .loop in
     let pre = c .before .before .pre in
-    let few : at .i ≤ 4096 = omega (arith, at .inv .1 .within, pre .pairs) in
     let all = equally {n' = length (c .before .before .args .weights .now) - at .zeros} refl refl refl refl (omega (arith, at .inv .1 .within, c .loop-test .left)) (at .inv .1) in
-    simp (toZ-ofZ (error-fits c))
-    (record {
-      is = finished _ _ _ _ _ (at .i) _ _ _ _ (c .loop-test .left) (pre .lengths) all;
-      written = finished-residues _ _ _ _ _ (at .i) _ _ _ _ (c .loop-test .left) (pre .lengths) all;
+    record {
+      is = finished all (c .loop-test .left) (pre .lengths) (toZ-ofZ (score-fits c)) (ap natAbs (ap back (turned-is c) ∙ toZ-ofZ (turned-fits c)));
+      written = finished-residues all (c .loop-test .left) (pre .lengths);
       small = record {
-        score = omega (arith, all .score-size);
-        trueSum = omega (arith, all .true-size);
-        error = omega (arith, all .error-size);
-        magnitudeSum = omega (arith, all .magnitude-size);
+        score = omega (arith, all .score-size, few c, ap natAbs (toZ-ofZ (score-fits c) ∙ score-is all));
+        trueSum = omega (arith, all .true-size, few c);
+        error = omega (arith, all .error-size, few c);
+        magnitudeSum = omega (arith, all .magnitude-size, few c, ap natAbs (ap back (turned-is c) ∙ toZ-ofZ (turned-fits c) ∙ all .magnitude-is));
       };
-    })
+    }
 
 pub accumulate-spec : {M : Type 1} → statement M
 accumulate-spec =
@@ -307,21 +328,21 @@ accumulate-spec =
     (λ c κs. search needs)
     product-of-sizes-requires
     add-true-sum
-    sub-score
-    (λ c κs. search needs)
-    add-magnitude-sum
-    add-write
+    add-minus-sum
+    add-residue
+    add-error
     write-requires-2
     (λ c. search needs)
     loop-again-2
-    add-score
-    (λ c κs. search needs)
-    add-magnitude-sum-2
-    sub-write
+    sub-residue
+    add-error-2
     write-requires-3
     (λ c. search needs)
     loop-again-3
+    sub-t34
+    sub-t35
     sub-t36
-    sub-t39
+    cast-t37
+    sub-t40
     same-length
     returns)
