@@ -11,7 +11,7 @@ use Rattle.designs.specs.Designs.{log2, rest, unlessZero, byMitchell, mi
 use Rattle.designs.specs.Codes.{code, scaledProduct, byCodes}
 use Rattle.designs.proofs.Cases.{either-lt}
 use Rattle.designs.proofs.Parts.{rest-lt, log2-below, up-to}
-use Rattle.designs.proofs.Fold.{carried, carried-scale}
+use Rattle.designs.proofs.Carried.{carried, carried-scale}
 use Rattle.designs.proofs.Zeros.{product-is}
 
 -- q is the quotient and u the rest

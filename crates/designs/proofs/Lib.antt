@@ -5,7 +5,7 @@ pub mod Zeros
 pub mod Mitchell
 pub mod Nearest
 pub mod Staged
-pub mod Fold
+pub mod Carried
 pub mod Truncated
 pub mod Widths
 pub mod Squares

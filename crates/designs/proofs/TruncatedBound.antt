@@ -1,5 +1,5 @@
 -- Design 4's bound, from design 1's. In units of 1 / 2^t the kept fractions and the carry move design 1's sum by at most one unit,
--- so its product moves by at most two (`Fold.carried-close`), and one more is lost by rounding down. Assumes nothing.
+-- so its product moves by at most two (`Carried.carried-close`), and one more is lost by rounding down. Assumes nothing.
 use mathlib.Core.Path.{sym, subst₂}
 use Prim.Native.Nat.{ℕ, _+_, _*_, _/_, _^_, _≤_, _<_}
 use native.Mathlib.Nat.{div-mul-le-self, le-of-lt, lt-div-mul-add, mul-comm, mul-le-mul-left, mul-le-mul-right, mul-pos}
@@ -7,7 +7,7 @@ use native.Mathlib.Omega.{arith}
 use lib.Pow.{pow-add, pow-pos}
 use Rattle.designs.specs.Designs.{log2, rest, kept, byTruncation}
 use Rattle.designs.proofs.Distance.{Within}
-use Rattle.designs.proofs.Fold.{Close, carried, carried-close, carried-scale, fold-is}
+use Rattle.designs.proofs.Carried.{Close, carried, carried-close, carried-scale}
 use Rattle.designs.proofs.Mitchell.{at, at-short}
 use Rattle.designs.proofs.MitchellBound.{at-within}
 use Rattle.designs.proofs.Parts.{parts, rest-lt}
@@ -46,7 +46,7 @@ at-truncated P a Q b N ha hb n =
 pub truncated-within : (t A B : ℕ) → 0 < A → 0 < B → Within (9 * 2 ^ t) ((2 ^ t + 18) * (A * B) + 9 * 2 ^ t) (A * B) (byTruncation t A B)
 unfolding kept
 truncated-within t A B ha hb =
-    rw (truncation-at t A B, fold-is (2 ^ t) (kept t A + kept t B + 1), pow-add 2 (log2 A) (log2 B))
+    rw (truncation-at t A B, pow-add 2 (log2 A) (log2 B))
     (subst₂ (λ (x y : ℕ). Within (9 * 2 ^ t) ((2 ^ t + 18) * (x * y) + 9 * 2 ^ t) (x * y) (2 ^ log2 A * 2 ^ log2 B * carried (2 ^ t) (kept t A + kept t B + 1) / 2 ^ t))
     (sym (parts A ha)) (sym (parts B hb))
     (at-truncated (2 ^ log2 A) (rest A) (2 ^ log2 B) (rest B) (2 ^ t) (rest-lt A) (rest-lt B) (pow-pos t)))

@@ -12,7 +12,7 @@ use Rattle.designs.proofs.Zeros.{by-zero, product-is}
 use Rattle.designs.proofs.Mitchell.{mitchell-short}
 use Rattle.designs.proofs.Nearest.{Near, under, over, near-is, at, nearest-at}
 use Rattle.designs.proofs.Staged.{stages-leave}
-use Rattle.designs.proofs.Fold.{fold, fold-is, fold-lt}
+use Rattle.designs.proofs.Carried.{carried, carried-lt}
 use Rattle.designs.proofs.Truncated.{total, total-lt, truncation-at}
 
 -- the exponent of the nearest power is at most the width
@@ -39,11 +39,11 @@ module _ (u v A B : ℕ) (pa : 0 < A) (pb : 0 < B) (ha : A < 2 ^ u) (hb : B < 2 
   truncated-lt : (t : ℕ) → byTruncation t A B < 2 ^ u * 2 ^ v
   truncated-lt t = rw (truncation-at t A B) (div-lt-iff-lt-mul (pow-pos t) .1 (rw (pow-add 2 (log2 A) (log2 B)) below))
     where
-      below : 2 ^ log2 A * 2 ^ log2 B * fold (2 ^ t) (total t A B) < 2 ^ u * 2 ^ v * 2 ^ t
+      below : 2 ^ log2 A * 2 ^ log2 B * carried (2 ^ t) (total t A B) < 2 ^ u * 2 ^ v * 2 ^ t
       below =
           omega (
             arith,
-            mul-le-mul-left (2 ^ log2 A * 2 ^ log2 B) (fold-lt (2 ^ t) (total t A B) (pow-pos t) (total-lt t A B)),
+            mul-le-mul-left (2 ^ log2 A * 2 ^ log2 B) (carried-lt (2 ^ t) (total t A B) (pow-pos t) (total-lt t A B)),
             mul-le-mul-right (2 ^ t) (mul-le-mul (log2-double u A pa ha) (log2-double v B pb hb)),
             mul-pos (pow-pos (log2 A)) (pow-pos (log2 B)),
           )
@@ -97,10 +97,10 @@ module _ (v : ℕ) where
   power-truncated : (t : ℕ) → 0 < t → byTruncation t (2 ^ v) (2 ^ v) < 2 * (2 ^ v * 2 ^ v)
   power-truncated t h =
       rw (truncation-at t (2 ^ v) (2 ^ v), power-log2, power-kept t, pow-add 2 v v)
-      (div-lt-iff-lt-mul (pow-pos t) .1 (omega (arith, mul-le-mul-left (2 ^ v * 2 ^ v) folded, mul-pos (pow-pos v) (pow-pos v))))
+      (div-lt-iff-lt-mul (pow-pos t) .1 (omega (arith, mul-le-mul-left (2 ^ v * 2 ^ v) alone, mul-pos (pow-pos v) (pow-pos v))))
     where
-      folded : fold (2 ^ t) (2 ^ t + (0 + 0 + 1)) < 2 * 2 ^ t
-      folded = rw (fold-is (2 ^ t) (0 + 0 + 1)) (by-lt (λ (z : ℕ). z < 2 * 2 ^ t) 1 (2 ^ t) (λ l. omega arith) (λ l. absurd (omega (arith, pow-mono h))))
+      alone : carried (2 ^ t) (0 + 0 + 1) < 2 * 2 ^ t
+      alone = by-lt (λ (z : ℕ). z < 2 * 2 ^ t) 1 (2 ^ t) (λ l. omega arith) (λ l. absurd (omega (arith, pow-mono h)))
 
   power-lt : (D : Design) → KeepsBit D → formula D (2 ^ v) (2 ^ v) < 2 * (2 ^ v * 2 ^ v)
   unfolding formula

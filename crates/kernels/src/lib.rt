@@ -4,7 +4,7 @@ ghost use mathlib.Core.Path.{_≡_};
 ghost use Prim.Native.Nat.{min, _+_, _-_, _*_, _^_, _≤_, _<_};
 ghost use Rattle.designs.specs.Designs.{log2, kept, product, mitchell, nearest, staged, truncated};
 ghost use Rattle.designs.specs.Products.{designOf};
-ghost use Rattle.designs.proofs.Fold.{fold};
+ghost use Rattle.designs.proofs.Carried.{carried};
 ghost use Rattle.kernels.specs.Steps.{served, NearPower};
 
 mod bits;
@@ -27,23 +27,17 @@ pub fn mitchell(a: u32, b: u32) -> u64
     }
     let k = log2_floor(a);
     let m = log2_floor(b);
-    let one = power(k + m);
-    // a × 2^m and b × 2^k each hold 2^(k+m); the product wants it once
-    folded(one, shifted(a, m) + shifted(b, k) - one)
+    let s = shifted(rest_of(a, k), m) + shifted(rest_of(b, m), k);
+    carried(power(k + m), s)
 }
 
-// The sum one + s as it stands where s is below one, and otherwise 2 × s: the carry of designs 1 and 4.
-fn folded(one: u64, sum: u64) -> u64
-    requires { ⌜ (one ≤ sum) × (sum < 3 * one) × (one ≤ 2 ^ 62) ⌝ }
-    ensures { λ r. ⌜ r ≡ fold one sum ⌝ }
+// The carry of designs 1 and 4: one + s where s is below one, and otherwise 2 × s.
+fn carried(one: u64, s: u64) -> u64
+    requires { ⌜ (s < 2 * one) × (one ≤ 2 ^ 62) ⌝ }
+    ensures { λ r. ⌜ r ≡ carried one s ⌝ }
 {
-    let s = sum - one;
-    let twice = s + s;
-    // the greater of the two: 2 × s passes one + s where s passes one
-    if twice < sum {
-        return sum;
-    }
-    twice
+    let top = if s < one { one } else { s };
+    s + top
 }
 
 // Design 2, nearest power.
@@ -109,19 +103,18 @@ pub fn truncated(kept_bits: u32, a: u32, b: u32) -> u64
     let t = at_most_31(kept_bits);
     let k = headroom(a);
     let m = headroom(b);
-    let one = power(31);
-    // each operand is one and its kept fraction; the sum wants one of the two ones, and the carry of 1 at the last kept bit
-    let sum = kept_of(a, k, t) + kept_of(b, m, t) + power(31 - t) - one;
+    // the sum of both kept fractions, where one is 2^31, with the carry of 1 at the last kept bit
+    let s = kept_of(a, k, t) + kept_of(b, m, t) + power(31 - t);
     // 2^31 × 2^31 over the power of the product is 2^(k+m)
-    (folded(one, sum) << 31) >> (k + m)
+    (carried(power(31), s) << 31) >> (k + m)
 }
 
-// x moved up by its headroom, its leading bit then at 2^31, with its t kept bits and nothing below them.
+// The t kept bits of the fraction of x, which is moved up by its headroom, so that its leading bit is at 2^31.
 fn kept_of(x: u32, k: u32, t: u32) -> u64
     requires { ⌜ (0 < x) × (k + log2 x ≡ 31) × (t ≤ 31) ⌝ }
-    ensures { λ r. ⌜ r ≡ (2 ^ t + kept t x) * 2 ^ (31 - t) ⌝ }
+    ensures { λ r. ⌜ r ≡ kept t x * 2 ^ (31 - t) ⌝ }
 {
-    shifted(x, k) & !(power(31 - t) - 1)
+    shifted(x, k) & (power(31) - power(31 - t))
 }
 
 fn at_most_31(t: u32) -> u32

@@ -1,12 +1,11 @@
--- `truncated` adds both operands as they are kept, folds the sum less one 2^31, and shifts it to the power of the product.
--- Assumes nothing.
+-- `truncated` adds both kept fractions and the carry of 1, carries, and shifts the sum to the power of the product. Assumes nothing.
 use borrow.Author.Needs.{needs}
 use mathlib.Core.Path.{_≡_, ap, ap₂, _∙_}
 use Prim.Native.Nat.{ℕ, _+_, _-_, _*_, _/_, _^_, _≤_}
 use native.Mathlib.Nat.{min-le-right, mod-eq-of-lt}
 use native.Mathlib.Omega.{arith}
 use Rattle.designs.specs.Designs.{truncated, product}
-use Rattle.designs.proofs.Fold.{fold}
+use Rattle.designs.proofs.Carried.{carried}
 use Rattle.designs.proofs.Truncated.{total}
 use Rattle.designs.proofs.Zeros.{zero-left, zero-right}
 use Rattle.kernels.proofs.Truncation.{Sum, sum}
@@ -32,51 +31,40 @@ returns-2 : tie.Need-returns-2
 returns-2 c = zero-right (truncated _) _ _ (c .if2 .taken)
 
 kept-of-requires : tie.Need-kept-of-requires
-kept-of-requires c κs = (omega arith, c .before .before .headroom .ensures, small (c .before))
+kept-of-requires c κs = (omega arith, c .before .headroom .ensures, small c)
 
 kept-of-requires-2 : tie.Need-kept-of-requires-2
-kept-of-requires-2 c κs = (omega arith, c .before .before .headroom2 .ensures, small (c .before .before))
+kept-of-requires-2 c κs = (omega arith, c .before .headroom2 .ensures, small (c .before))
 
--- the three parts of the sum
-abbrev logs : tie.After-power2 → tie.After-headroom2
-logs c = c .before .before .before .before
+-- the headrooms, when the three parts of the sum have been computed, and the sum s
+abbrev rooms : tie.After-power → tie.After-headroom2
+rooms c = c .before .before .before
 
-abbrev all : tie.After-power2 → ℕ
-all c = c .before .before .kept-of .result + c .before .kept-of2 .result + c .power2 .result
+abbrev moved : tie.After-power → ℕ
+moved c = total (t (rooms c)) (start (rooms c) .args .a) (start (rooms c) .args .b) * 2 ^ (31 - t (rooms c))
 
-abbrev moved : tie.After-power2 → ℕ
-moved c = total (t (logs c)) (start (logs c) .args .a) (start (logs c) .args .b) * 2 ^ (31 - t (logs c))
+s-is : (c : tie.After-power) → c .before .before .kept-of .result + c .before .kept-of2 .result + c .power .result ≡ moved c
+s-is c = omega (arith, sum-at (rooms c) .whole, c .before .before .kept-of .ensures, c .before .kept-of2 .ensures, c .power .ensures)
 
-whole : (c : tie.After-power2) → all c ≡ 2 ^ 31 + moved c
-whole c = omega (arith, sum-at (logs c) .whole, c .before .before .kept-of .ensures, c .before .kept-of2 .ensures, c .power2 .ensures)
-
-less : (c : tie.After-power2) → all c - c .before .before .before .power .result ≡ moved c
-less c = omega (arith, whole c, c .before .before .before .power .ensures)
-
-add-sum : tie.Need-add-sum
-add-sum c =
-    let at = c .before .before .before in
-    omega (arith, sum-at at .whole, sum-at at .high, c .before .kept-of .ensures, c .kept-of2 .ensures)
+add-s : tie.Need-add-s
+add-s c =
+    let at = c .before .before in
+    record { fits = omega (arith, sum-at at .whole, sum-at at .high, c .before .kept-of .ensures, c .kept-of2 .ensures) }
 
 sub-power : tie.Need-sub-power
-sub-power c = small (c .before .before .before)
+sub-power c = small (c .before .before)
 
-add-sum-2 : tie.Need-add-sum-2
-add-sum-2 c = omega (arith, whole c, sum-at (logs c) .high)
+add-s-2 : tie.Need-add-s-2
+add-s-2 c = record { fits = omega (arith, s-is c, sum-at (rooms c) .high) }
 
-sub-sum : tie.Need-sub-sum
-sub-sum c = omega (arith, whole c, c .before .before .before .power .ensures)
-
-folded-requires : tie.Need-folded-requires
-folded-requires c κs =
-    let one = c .before .before .before .power .ensures in
-    omega (arith, less c, one, sum-at (logs c) .low, sum-at (logs c) .high)
+carried-requires : tie.Need-carried-requires
+carried-requires c κs = omega (arith, s-is (c .before), c .power2 .ensures, sum-at (rooms (c .before)) .high)
 
 returns-3 : tie.Need-returns-3
 returns-3 c =
-    let at = logs (c .before) in
-    let folds : c .folded .result ≡ fold (2 ^ 31) (moved (c .before)) = c .folded .ensures ∙ ap₂ fold (c .before .before .before .before .power .ensures) (less (c .before)) in
-    ap (λ (x : ℕ). x / 2 ^ (at .before .headroom .result + at .headroom2 .result)) (mod-eq-of-lt (omega (arith, folds, sum-at at .folded)) ∙ ap (λ (x : ℕ). x * 2 ^ 31) folds)
+    let at = rooms (c .before .before) in
+    let sum : c .carried .result ≡ carried (2 ^ 31) (moved (c .before .before)) = c .carried .ensures ∙ ap₂ carried (c .before .power2 .ensures) (s-is (c .before .before)) in
+    ap (λ (x : ℕ). x / 2 ^ (at .before .headroom .result + at .headroom2 .result)) (mod-eq-of-lt (omega (arith, sum, sum-at at .carried-high)) ∙ ap (λ (x : ℕ). x * 2 ^ 31) sum)
     ∙ sum-at at .is ∙ ap (λ (t : ℕ). product (truncated t) (start at .args .a) (start at .args .b)) (at .before .before .at-most-31 .ensures)
 
 pub truncated-spec : {M : Type 1} → statement M
@@ -88,15 +76,14 @@ truncated-spec =
     (λ c κs. search needs)
     (λ c κs. search needs)
     (λ c κs. search needs)
-    (λ c κs. search needs)
     kept-of-requires
     kept-of-requires-2
-    add-sum
+    add-s
     sub-power
     (λ c κs. search needs)
-    add-sum-2
-    sub-sum
-    folded-requires
+    add-s-2
+    (λ c κs. search needs)
+    carried-requires
     (λ c. search needs)
     (λ c. search needs)
     (λ c. search needs)
