@@ -10,8 +10,9 @@
  * The rest is what gave the fewest instructions at gcc -O3. These were measured and gave more, for a pair where each design has
  * its loop: Mitchell with its leading ones cleared and its sum compared (1 to 11 more); the nearest power by a bit or a condition
  * (2 to 8); the stages with their leading ones cleared by `&` or `^` (2 to 3 a stage); the truncated product scaled down by 2^t
- * and up again (7 to 8); counting the pairs without a 0 and not those with one (1 to 2). A branch on the carry of the fractions
- * gave 1 less, and at every other pair one more branch that is predicted wrongly.
+ * and up again (7 to 8); counting the pairs without a 0 and not those with one (1 to 2); summing the error and the true products
+ * below 0, as the library does, and not the score and the sizes (1 with a branch on signs; with masks from 1 less to 1 more). A
+ * branch on the carry of the fractions gave 1 less, and at every other pair one more branch that is predicted wrongly.
  */
 #include <stdlib.h>
 

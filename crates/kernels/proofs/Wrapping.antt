@@ -1,12 +1,12 @@
 -- What design 2's kernel computes modulo M = 2^64. The offset r = B − 2^M may wrap, but every multiple of M that it brings in
--- drops out of the sum again, and the product itself is below M; the leading two bits of 2 × x say which power is nearest.
+-- drops out of the sum again, and the product itself is below M; the bit of 2 × x below its leading one says which power is nearest.
 -- Assumes nothing.
 use mathlib.Core.Path.{_≡_, sym, ap, _∙_}
 use Prim.Native.Nat.{ℕ, _+_, _-_, _*_, _/_, _%_, _^_, _≤_, _<_}
 use native.Mathlib.Nat.{add-mod-mod, add-mul-div-right, add-mul-mod-self-right, div-add-mod', div-eq-of-lt, div-eq-of-lt-le, mod-eq-of-lt}
 use native.Mathlib.Omega.{arith}
 use borrow.Author.Tests.{le-leb, lt-leb}
-use lib.Pow.{pow-pos}
+use lib.Pow.{field, mod-mod-pow, pow-pos}
 use Rattle.designs.specs.Designs.{log2, rest, nearPower, nearest, formula, product}
 use Rattle.designs.proofs.Cases.{either-le}
 use Rattle.designs.proofs.Nearest.{at, at-le, near-is, nearest-at}
@@ -35,21 +35,20 @@ nearest-wrapped w A B k m r pa pb ha hb ek em e =
     is : product nearest A B ≡ at A (2 ^ nearPower A) B (2 ^ nearPower B)
     is = product-is nearest A B pa pb ∙ nearest-at A B pa pb
 
--- the leading two bits of 2 × x
-pub record Lead (x k lead : ℕ) : Type 0 where
-  pub low : 2 ≤ lead
-  pub high : lead < 4
-  pub is : k + lead % 2 ≡ nearPower x
-
-pub lead : (x k : ℕ) → 0 < x → k ≡ log2 x → Lead x k (x * 2 ^ 1 / 2 ^ k)
+-- the bit of 2 × x below its leading one
+pub lead : (x k : ℕ) → 0 < x → k ≡ log2 x → k + x * 2 ^ 1 / 2 ^ k % 2 ≡ nearPower x
 unfolding nearPower
 lead x k h e =
     rw (e, leading)
     (either-le (2 ^ log2 x) (2 * rest x)
-    (λ g. let one : rest x * 2 / 2 ^ log2 x ≡ 1 = div-eq-of-lt-le (2 ^ log2 x) (omega arith) (omega (arith, rest-lt x)) in
-    record { low = omega arith; high = omega arith; is = simp (one, le-leb (2 ^ log2 x) (2 * rest x) g) })
-    (λ g. let none : rest x * 2 / 2 ^ log2 x ≡ 0 = div-eq-of-lt (omega arith) in
-    record { low = omega arith; high = omega arith; is = simp (none, lt-leb (2 ^ log2 x) (2 * rest x) g) (omega arith) }))
+    (λ g. let one : rest x * 2 / 2 ^ log2 x ≡ 1 = div-eq-of-lt-le (2 ^ log2 x) (omega arith) (omega (arith, rest-lt x)) in simp (one, le-leb (2 ^ log2 x) (2 * rest x) g))
+    (λ g. let none : rest x * 2 / 2 ^ log2 x ≡ 0 = div-eq-of-lt (omega arith) in simp (none, lt-leb (2 ^ log2 x) (2 * rest x) g) (omega arith)))
   where
     leading : x * 2 / 2 ^ log2 x ≡ rest x * 2 / 2 ^ log2 x + 2
     leading = ap (λ (y : ℕ). y / 2 ^ log2 x) (omega (arith, parts x h)) ∙ add-mul-div-right (rest x * 2) 2 (pow-pos (log2 x))
+
+-- a bit of 2 × x below 2^w, from 2 × x modulo 2^w
+pub doubled : (w x k : ℕ) → k < w → (x + x) % 2 ^ w / 2 ^ k % 2 ≡ x * 2 ^ 1 / 2 ^ k % 2
+doubled w x k h =
+    ap (λ (j : ℕ). (x + x) % 2 ^ j / 2 ^ k % 2) (omega arith) ∙ ap (λ (y : ℕ). y % 2) (field (x + x) (w - k - 1 + 1) k)
+    ∙ mod-mod-pow ((x + x) / 2 ^ k) (w - k - 1) 1 ∙ ap (λ (y : ℕ). y / 2 ^ k % 2) (omega arith)

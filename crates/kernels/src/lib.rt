@@ -63,9 +63,9 @@ fn near_power(x: u32) -> u32
     ensures { λ r. ⌜ NearPower x r ⌝ }
 {
     let k = log2_floor(x);
-    // the leading two bits of 2 × x, 2 or 3: the lower says whether x is at least halfway to 2^(k+1)
-    let lead = (shifted(x, 1) >> k) as u32;
-    k + (lead & 1)
+    // the bit of 2 × x below its leading one, at 2^k, says whether x is at least halfway to 2^(k+1); no bit above it is wanted
+    let twice = std::num::wrapping_add_u32(x, x);
+    k + ((twice >> k) & 1)
 }
 
 // Design 3, staged: one stage, and what is left of both goes to the next.
