@@ -1,8 +1,8 @@
 -- The two cases that designs 1 and 4 share: X + s where s < X, and otherwise 2 × s. They scale with X and s together, and a change
 -- of s by D moves them by at most 2 × D. Assumes nothing.
 use mathlib.Core.Path.{_≡_, sym, ap, _∙_}
-use Prim.Native.Nat.{ℕ, _+_, _-_, _*_, _≤_, _<_}
-use native.Mathlib.Nat.{mul-le-mul-left, mul-lt-mul-of-pos-left}
+use Prim.Native.Nat.{ℕ, max, _+_, _*_, _≤_, _<_}
+use native.Mathlib.Nat.{max-eq-left, max-eq-right, mul-le-mul-left, mul-lt-mul-of-pos-left}
 use native.Mathlib.Omega.{arith}
 use borrow.Author.Tests.{lt-ltb, le-ltb}
 use mathlib.Core.Bool.{cond}
@@ -11,6 +11,19 @@ use Rattle.designs.proofs.Cases.{by-lt, either-lt}
 
 abbrev pub carried : ℕ → ℕ → ℕ
 carried X s = cond (ltb s X) (X + s) (2 * s)
+
+-- as the greater of its two cases, and as s and the greater of X and s
+pub carried-greater : (X s : ℕ) → max (X + s) (s + s) ≡ carried X s
+carried-greater X s =
+    either-lt s X
+    (λ h. let g : s + s ≤ X + s = omega arith in simp (lt-ltb s X h, max-eq-left g))
+    (λ h. let g : X + s ≤ s + s = omega arith in simp (le-ltb s X h, max-eq-right g) (omega arith))
+
+pub carried-top : (X s : ℕ) → s + max X s ≡ carried X s
+carried-top X s =
+    either-lt s X
+    (λ h. let g : s ≤ X = omega arith in simp (lt-ltb s X h, max-eq-left g) (omega arith))
+    (λ h. simp (le-ltb s X h, max-eq-right h) (omega arith))
 
 pub carried-lt : (X s : ℕ) → 0 < X → s < 2 * X → carried X s < 4 * X
 carried-lt X s p h = by-lt (λ (z : ℕ). z < 4 * X) s X (λ l. omega arith) (λ l. omega arith)

@@ -1,10 +1,9 @@
 // The four designs on magnitudes of up to 32 bits, whatever the width of the operands they come from. Every input is taken, so
 // nothing is refused here. The kernels shift and add; none multiplies.
 ghost use mathlib.Core.Path.{_≡_};
-ghost use Prim.Native.Nat.{min, _+_, _-_, _*_, _^_, _≤_, _<_};
-ghost use Rattle.designs.specs.Designs.{log2, kept, product, mitchell, nearest, staged, truncated};
+ghost use Prim.Native.Nat.{min, max, _<_};
+ghost use Rattle.designs.specs.Designs.{product, mitchell, nearest, staged, truncated};
 ghost use Rattle.designs.specs.Products.{designOf};
-ghost use Rattle.designs.proofs.Carried.{carried};
 ghost use Rattle.kernels.specs.Steps.{served, NearPower};
 
 mod bits;
@@ -27,17 +26,19 @@ pub fn mitchell(a: u32, b: u32) -> u64
     }
     let k = log2_floor(a);
     let m = log2_floor(b);
-    let s = shifted(rest_of(a, k), m) + shifted(rest_of(b, m), k);
-    carried(power(k + m), s)
+    let y = shifted(rest_of(b, m), k);
+    let s = shifted(rest_of(a, k), m) + y;
+    // a × 2^m + y is 2^(k+m) + s, the greater of the two where s does not carry
+    greater(shifted(a, m) + y, s + s)
 }
 
-// The carry of designs 1 and 4: one + s where s is below one, and otherwise 2 × s.
-fn carried(one: u64, s: u64) -> u64
-    requires { ⌜ (s < 2 * one) × (one ≤ 2 ^ 62) ⌝ }
-    ensures { λ r. ⌜ r ≡ carried one s ⌝ }
+fn greater(x: u64, y: u64) -> u64
+    ensures { λ r. ⌜ r ≡ max x y ⌝ }
 {
-    let top = if s < one { one } else { s };
-    s + top
+    if x < y {
+        return y;
+    }
+    x
 }
 
 // Design 2, nearest power.
@@ -103,18 +104,14 @@ pub fn truncated(kept_bits: u32, a: u32, b: u32) -> u64
     let t = at_most_31(kept_bits);
     let k = headroom(a);
     let m = headroom(b);
-    // the sum of both kept fractions, where one is 2^31, with the carry of 1 at the last kept bit
-    let s = kept_of(a, k, t) + kept_of(b, m, t) + power(31 - t);
+    // the last kept bit, and 2^31, made of it so that the compiler keeps it in a register
+    let last = power(31 - t);
+    let one = last << t;
+    let mask = one - last;
+    // the sum of both kept fractions, below the leading bits at 2^31, with the carry of 1 at the last kept bit
+    let s = (shifted(a, k) & mask) + (shifted(b, m) & mask) + last;
     // 2^31 × 2^31 over the power of the product is 2^(k+m)
-    (carried(power(31), s) << 31) >> (k + m)
-}
-
-// The t kept bits of the fraction of x, which is moved up by its headroom, so that its leading bit is at 2^31.
-fn kept_of(x: u32, k: u32, t: u32) -> u64
-    requires { ⌜ (0 < x) × (k + log2 x ≡ 31) × (t ≤ 31) ⌝ }
-    ensures { λ r. ⌜ r ≡ kept t x * 2 ^ (31 - t) ⌝ }
-{
-    shifted(x, k) & (power(31) - power(31 - t))
+    ((s + greater(one, s)) << 31) >> (k + m)
 }
 
 fn at_most_31(t: u32) -> u32

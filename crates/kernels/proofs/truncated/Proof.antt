@@ -1,14 +1,18 @@
--- `truncated` adds both kept fractions and the carry of 1, carries, and shifts the sum to the power of the product. Assumes nothing.
+-- `truncated` masks both kept fractions, adds them and the carry of 1, carries, and shifts the sum to the power of the product.
+-- Assumes nothing.
 use borrow.Author.Needs.{needs}
-use mathlib.Core.Path.{_≡_, ap, ap₂, _∙_}
-use Prim.Native.Nat.{ℕ, _+_, _-_, _*_, _/_, _^_, _≤_}
+use mathlib.Core.Path.{_≡_, sym, ap, ap₂, _∙_}
+use Prim.Native.Nat.{ℕ, max, _+_, _-_, _*_, _/_, _%_, _^_, _≤_}
 use native.Mathlib.Nat.{min-le-right, mod-eq-of-lt}
 use native.Mathlib.Omega.{arith}
-use Rattle.designs.specs.Designs.{truncated, product}
-use Rattle.designs.proofs.Carried.{carried}
+use lib.Bits.{bitAnd}
+use lib.Pow.{pow-mono}
+use Rattle.designs.specs.Designs.{kept, truncated, product}
+use Rattle.designs.proofs.Carried.{carried, carried-top}
+use Rattle.designs.proofs.Parts.{up-to}
 use Rattle.designs.proofs.Truncated.{total}
 use Rattle.designs.proofs.Zeros.{zero-left, zero-right}
-use Rattle.kernels.proofs.Truncation.{Sum, sum}
+use Rattle.kernels.proofs.Truncation.{Sum, kept-is, sum}
 use Rattle.kernels.proofs.truncated.Statement.{statement}
 use Rattle.kernels.proofs.truncated.Tie as tie
 
@@ -30,40 +34,60 @@ returns c = zero-left (truncated _) _ _ (c .if1 .taken)
 returns-2 : tie.Need-returns-2
 returns-2 c = zero-right (truncated _) _ _ (c .if2 .taken)
 
-kept-of-requires : tie.Need-kept-of-requires
-kept-of-requires c κs = (omega arith, c .before .headroom .ensures, small c)
+sub-power : tie.Need-sub-power
+sub-power c = small c
 
-kept-of-requires-2 : tie.Need-kept-of-requires-2
-kept-of-requires-2 c κs = (omega arith, c .before .headroom2 .ensures, small (c .before))
+-- 2^31 and the mask, as they are computed of the last kept bit
+abbrev one : tie.After-power → ℕ
+one c = c .power .result * 2 ^ t (c .before) % 2 ^ 64
 
--- the headrooms, when the three parts of the sum have been computed, and the sum s
-abbrev rooms : tie.After-power → tie.After-headroom2
+one-is : (c : tie.After-power) → one c ≡ 2 ^ 31
+one-is c = ap (λ (x : ℕ). x % 2 ^ 64) (ap (λ (x : ℕ). x * 2 ^ t (c .before)) (c .power .ensures) ∙ sym (up-to 31 (t (c .before)) (small (c .before))))
+
+mask-is : (c : tie.After-power) → one c - c .power .result ≡ 2 ^ 31 - 2 ^ (31 - t (c .before))
+mask-is c = ap₂ _-_ (one-is c) (c .power .ensures)
+
+sub-mask : tie.Need-sub-mask
+sub-mask c = omega (arith, one-is c, c .power .ensures, pow-mono {i = 31 - t (c .before)} {j = 31} (omega arith))
+
+-- the headrooms, when both operands have been shifted, and the sum s
+abbrev rooms : tie.After-shifted2 → tie.After-headroom2
 rooms c = c .before .before .before
 
-abbrev moved : tie.After-power → ℕ
+abbrev moved : tie.After-shifted2 → ℕ
 moved c = total (t (rooms c)) (start (rooms c) .args .a) (start (rooms c) .args .b) * 2 ^ (31 - t (rooms c))
 
-s-is : (c : tie.After-power) → c .before .before .kept-of .result + c .before .kept-of2 .result + c .power .result ≡ moved c
-s-is c = omega (arith, sum-at (rooms c) .whole, c .before .before .kept-of .ensures, c .before .kept-of2 .ensures, c .power .ensures)
+module _ (c : tie.After-shifted2) where
+  first : bitAnd (c .before .shifted .result) (one (c .before .before) - c .before .before .power .result) ≡ kept (t (rooms c)) (start (rooms c) .args .a) * 2 ^ (31 - t (rooms c))
+  first = ap₂ bitAnd (c .before .shifted .ensures) (mask-is (c .before .before)) ∙ kept-is 31 _ _ _ (omega arith) (rooms c .before .headroom .ensures) (small (rooms c))
+
+  second : bitAnd (c .shifted2 .result) (one (c .before .before) - c .before .before .power .result) ≡ kept (t (rooms c)) (start (rooms c) .args .b) * 2 ^ (31 - t (rooms c))
+  second = ap₂ bitAnd (c .shifted2 .ensures) (mask-is (c .before .before)) ∙ kept-is 31 _ _ _ (omega arith) (rooms c .headroom2 .ensures) (small (rooms c))
+
+  s-is :
+      bitAnd (c .before .shifted .result) (one (c .before .before) - c .before .before .power .result) + bitAnd (c .shifted2 .result) (one (c .before .before) - c .before .before .power .result) + c .before .before .power .result
+      ≡ moved c
+  s-is = ap₂ _+_ (ap₂ _+_ first second) (c .before .before .power .ensures) ∙ sum-at (rooms c) .whole
 
 add-s : tie.Need-add-s
-add-s c =
-    let at = c .before .before in
-    record { fits = omega (arith, sum-at at .whole, sum-at at .high, c .before .kept-of .ensures, c .kept-of2 .ensures) }
-
-sub-power : tie.Need-sub-power
-sub-power c = small (c .before .before)
+add-s c = record { fits = omega (arith, first c, second c, sum-at (rooms c) .whole, sum-at (rooms c) .high) }
 
 add-s-2 : tie.Need-add-s-2
 add-s-2 c = record { fits = omega (arith, s-is c, sum-at (rooms c) .high) }
 
-carried-requires : tie.Need-carried-requires
-carried-requires c κs = omega (arith, s-is (c .before), c .power2 .ensures, sum-at (rooms (c .before)) .high)
+-- the carried sum
+carried-is : (c : tie.After-greater) → moved (c .before) + c .greater .result ≡ carried (2 ^ 31) (moved (c .before))
+carried-is c =
+    ap (λ (x : ℕ). moved (c .before) + x) (c .greater .ensures ∙ ap₂ max (one-is (c .before .before .before)) (s-is (c .before)))
+    ∙ carried-top (2 ^ 31) (moved (c .before))
+
+add-result : tie.Need-add-result
+add-result c = record { fits = omega (arith, s-is (c .before), carried-is c, sum-at (rooms (c .before)) .carried-high) }
 
 returns-3 : tie.Need-returns-3
 returns-3 c =
-    let at = rooms (c .before .before) in
-    let sum : c .carried .result ≡ carried (2 ^ 31) (moved (c .before .before)) = c .carried .ensures ∙ ap₂ carried (c .before .power2 .ensures) (s-is (c .before .before)) in
+    let at = rooms (c .before) in
+    let sum = ap (λ (x : ℕ). x + c .greater .result) (s-is (c .before)) ∙ carried-is c in
     ap (λ (x : ℕ). x / 2 ^ (at .before .headroom .result + at .headroom2 .result)) (mod-eq-of-lt (omega (arith, sum, sum-at at .carried-high)) ∙ ap (λ (x : ℕ). x * 2 ^ 31) sum)
     ∙ sum-at at .is ∙ ap (λ (t : ℕ). product (truncated t) (start at .args .a) (start at .args .b)) (at .before .before .at-most-31 .ensures)
 
@@ -76,14 +100,17 @@ truncated-spec =
     (λ c κs. search needs)
     (λ c κs. search needs)
     (λ c κs. search needs)
-    kept-of-requires
-    kept-of-requires-2
-    add-s
     sub-power
     (λ c κs. search needs)
+    (λ c. search needs)
+    (λ c. search needs)
+    sub-mask
+    (λ c κs. search needs)
+    (λ c κs. search needs)
+    add-s
     add-s-2
     (λ c κs. search needs)
-    carried-requires
+    add-result
     (λ c. search needs)
     (λ c. search needs)
     (λ c. search needs)
