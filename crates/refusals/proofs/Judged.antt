@@ -1,17 +1,14 @@
 -- What the judgement of a product's numbers gives, by cases on its tests: a refused setting hides the operands, and an accepted one
 -- bounds the width and the kept bits. Assumes nothing.
 use mathlib.Core.Path.{_≡_, refl, sym, ap, _∙_}
-use Prim.Native.Nat.{ℕ, zero, suc, _-_, _^_, _≤_, _<_}
-use native.Mathlib.Nat.{le-trans, min-eq-left}
+use Prim.Native.Nat.{ℕ, zero, suc, _-_, _≤_, _<_}
 use native.Mathlib.Omega.{arith}
 use mathlib.Core.Bool.{Bool, true, false, not, _&&_, cond, false≢true}
-use borrow.Author.Tests.{lt-ltb, le-ltb, le-leb, lt-leb, leb-true, eqb-true, eqb-false, not-true, not-false}
-use lib.Dec.{leb, ltb, eqb}
-use lib.IntN.{ℤ, pos, negsuc, natAbs}
-use lib.Pow.{pow-mono, pow-pos}
+use borrow.Author.Tests.{lt-leb, leb-true, eqb-true, eqb-false}
+use lib.Dec.{leb, eqb}
 use Rattle.designs.specs.Designs.{Design, mitchell, nearest, staged, truncated}
 use Rattle.designs.specs.Outcomes.{accepted, refused, unlessRefused, first}
-use Rattle.designs.specs.Products.{refusals, isDesign, isWidth, designOf, takesSetting, insideUnsigned, insideSigned}
+use Rattle.designs.specs.Products.{refusals, isDesign, isWidth, designOf, takesSetting}
 use Rattle.designs.proofs.Widths.{KeepsBit, KeepsAtMost}
 use Rattle.refusals.specs.Settings.{settingRefusal}
 

@@ -6,8 +6,7 @@ use borrow.Author.Tests.{eqb-true, eqb-false}
 use mathlib.Core.Path.{_≡_, refl, sym, ap, ap₂, _∙_}
 use mathlib.Core.Bool.{Bool}
 use mathlib.Core.List.{List}
-use Prim.Native.Nat.{ℕ, _+_, _-_, _^_, _≤_, _<_}
-use native.Mathlib.Nat.{add-zero}
+use Prim.Native.Nat.{ℕ, _+_, _-_, _≤_, _<_}
 use native.Mathlib.Omega.{arith}
 use lib.Dec.{eqb}
 use lib.IntN.{ℤ, pos, natAbs, _+ℤ_, _-ℤ_, _*ℤ_, +ℤ-idr}
@@ -19,7 +18,7 @@ use mir.Facts.{toZ-ofZ, fits-natAbs}
 use Rattle.designs.specs.Designs.{Design, product}
 use Rattle.designs.specs.Products.{designOf}
 use Rattle.designs.specs.Rows.{nonzero}
-use Rattle.designs.specs.Signs.{negative, signedProduct, residue}
+use Rattle.designs.specs.Signs.{negative, residue}
 use Rattle.signs.proofs.Integers.{fits-as, read-back, sized, tested}
 use Rattle.rows.proofs.Pair.{Bounds, bounds, counted, minus-residue, plus-residue, zero-pair}
 use Rattle.rows.proofs.SoFar.{SoFar, below, below-minus, below-plus, start, next, equally, finished, finished-residues, half-size, score-is}
