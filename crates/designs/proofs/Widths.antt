@@ -63,19 +63,18 @@ product-lt D u v A B ha hb =
 -- Signed operands of v + 1 bits have sizes up to 2^v, which has v + 1 bits itself. Their product still has at most 2v + 1 bits:
 -- where one size is below 2^v by the law above, and where both are 2^v because the designs are all but exact there.
 
--- design 4 keeps at least one bit
-abbrev pub KeepsBit : Design → Type 0
-KeepsBit mitchell = Unit {0}
-KeepsBit nearest = Unit {0}
-KeepsBit (staged s) = Unit {0}
-KeepsBit (truncated t) = 0 < t
+-- a claim on the kept bits of design 4: that it keeps at least one, and at most n
+abbrev pub Keeps : (ℕ → Type 0) → Design → Type 0
+Keeps Q mitchell = Unit {0}
+Keeps Q nearest = Unit {0}
+Keeps Q (staged s) = Unit {0}
+Keeps Q (truncated t) = Q t
 
--- and at most n
+abbrev pub KeepsBit : Design → Type 0
+KeepsBit D = Keeps (λ t. 0 < t) D
+
 abbrev pub KeepsAtMost : ℕ → Design → Type 0
-KeepsAtMost n mitchell = Unit {0}
-KeepsAtMost n nearest = Unit {0}
-KeepsAtMost n (staged s) = Unit {0}
-KeepsAtMost n (truncated t) = t ≤ n
+KeepsAtMost n D = Keeps (λ t. t ≤ n) D
 
 module _ (v : ℕ) where
   power-log2 : log2 (2 ^ v) ≡ v

@@ -36,7 +36,7 @@ nearest-wrapped w A B k m r pa pb ha hb ek em e =
     is = product-is nearest A B pa pb ∙ nearest-at A B pa pb
 
 -- the bit of 2 × x below its leading one
-pub lead : (x k : ℕ) → 0 < x → k ≡ log2 x → k + x * 2 ^ 1 / 2 ^ k % 2 ≡ nearPower x
+pub lead : (x k : ℕ) → 0 < x → k ≡ log2 x → k + (x + x) / 2 ^ k % 2 ≡ nearPower x
 unfolding nearPower
 lead x k h e =
     rw (e, leading)
@@ -44,11 +44,10 @@ lead x k h e =
     (λ g. let one : rest x * 2 / 2 ^ log2 x ≡ 1 = div-eq-of-lt-le (2 ^ log2 x) (omega arith) (omega (arith, rest-lt x)) in simp (one, le-leb (2 ^ log2 x) (2 * rest x) g))
     (λ g. let none : rest x * 2 / 2 ^ log2 x ≡ 0 = div-eq-of-lt (omega arith) in simp (none, lt-leb (2 ^ log2 x) (2 * rest x) g) (omega arith)))
   where
-    leading : x * 2 / 2 ^ log2 x ≡ rest x * 2 / 2 ^ log2 x + 2
+    leading : (x + x) / 2 ^ log2 x ≡ rest x * 2 / 2 ^ log2 x + 2
     leading = ap (λ (y : ℕ). y / 2 ^ log2 x) (omega (arith, parts x h)) ∙ add-mul-div-right (rest x * 2) 2 (pow-pos (log2 x))
 
--- a bit of 2 × x below 2^w, from 2 × x modulo 2^w
-pub doubled : (w x k : ℕ) → k < w → (x + x) % 2 ^ w / 2 ^ k % 2 ≡ x * 2 ^ 1 / 2 ^ k % 2
-doubled w x k h =
-    ap (λ (j : ℕ). (x + x) % 2 ^ j / 2 ^ k % 2) (omega arith) ∙ ap (λ (y : ℕ). y % 2) (field (x + x) (w - k - 1 + 1) k)
-    ∙ mod-mod-pow ((x + x) / 2 ^ k) (w - k - 1) 1 ∙ ap (λ (y : ℕ). y / 2 ^ k % 2) (omega arith)
+-- a bit below 2^w, read modulo 2^w
+pub bit-mod : (w n k : ℕ) → k < w → n % 2 ^ w / 2 ^ k % 2 ≡ n / 2 ^ k % 2
+bit-mod w n k h =
+    ap (λ (j : ℕ). n % 2 ^ j / 2 ^ k % 2) (omega arith) ∙ ap (λ (y : ℕ). y % 2) (field n (w - k - 1 + 1) k) ∙ mod-mod-pow (n / 2 ^ k) (w - k - 1) 1

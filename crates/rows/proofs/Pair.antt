@@ -25,16 +25,10 @@ most = 2147483647
 pub record Bounds (D : Design) (w x : ℤ) : Type 0 where
   pub product-size : natAbs (signedProduct D w x) ≤ most
   pub true-size : natAbs (w *ℤ x) ≤ 2 ^ 30
-  pub full-size : nonzero w x ≤ 1
   pub residue-size : natAbs (residue D w x) ≤ most
 
 apart : (m x y : ℕ) → x ≤ m → y ≤ m → dist x y ≤ m
 apart m x y h g = omega (arith, within-dist 1 m x y (record { above = omega arith; below = omega arith }))
-
-once : (A B : ℕ) → unlessZero A B 1 ≤ 1
-once zero B = omega arith
-once (suc A) zero = omega arith
-once (suc A) (suc B) = omega arith
 
 pub bounds : (D : Design) (w x : ℤ) → KeepsBit D → SFits w16 w → SFits w16 x → Bounds D w x
 unfolding signedProduct residue
@@ -42,7 +36,6 @@ bounds D w x k hw hx =
     record {
       product-size = rw (size-sign minus (product D (natAbs w) (natAbs x))) P-size;
       true-size = rw (size-true w x) T-size;
-      full-size = once (natAbs w) (natAbs x);
       residue-size = rw (true-is w x, sign-dist minus (natAbs w * natAbs x) (product D (natAbs w) (natAbs x))) (apart most _ _ (omega (arith, T-size)) P-size);
     }
   where

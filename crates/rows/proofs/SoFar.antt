@@ -63,7 +63,6 @@ pub record SoFar (D : Design) (ws fs before after : List ℤ) (i : ℕ) (trueSum
   pub minus-size : natAbs minus ≤ i * 2 ^ 30
   pub error-size : natAbs error ≤ i * most
   pub magnitude-size : part D ws fs i .magnitudeSum ≤ i * 2 ^ 30
-  pub pairs-size : n ≤ i
 
 pub start : (D : Design) (ws fs before : List ℤ) → SoFar D ws fs before before 0 (pos 0) (pos 0) (pos 0) 0
 unfolding report residues pairwise sumℤ sum
@@ -81,7 +80,6 @@ start D ws fs before =
       minus-size = omega arith;
       error-size = omega arith;
       magnitude-size = omega arith;
-      pairs-size = omega arith;
     }
 
 module _ (D : Design) (ws fs before after : List ℤ) (i : ℕ) (trueSum minus error : ℤ) (n : ℕ) (h : i < length ws) (lengths : length ws ≡ length fs)
@@ -140,7 +138,6 @@ module _ (D : Design) (ws fs before after : List ℤ) (i : ℕ) (trueSum minus e
         minus-size = omega (arith, size-add minus (below (w *ℤ x)), below-size (w *ℤ x), so-far .minus-size, small .true-size);
         error-size = omega (arith, size-add error (residue D w x), so-far .error-size, small .residue-size);
         magnitude-size = omega (arith, more (λ w x. natAbs (w *ℤ x)), so-far .magnitude-size, small .true-size);
-        pairs-size = omega (arith, so-far .pairs-size, small .full-size);
       }
 
 -- the same of equal numbers
@@ -160,15 +157,12 @@ module _ {D : Design} {ws fs before after : List ℤ} {i : ℕ} {trueSum minus e
 
   -- all pairs have been scored
   module _ (h : length ws ≤ i) (e : length ws ≡ length fs) where
-    all : (k : ℕ) → k ≡ part D ws fs i .magnitudeSum → {score : ℤ} → score ≡ part D ws fs i .score
-        → record { score = score; trueSum = trueSum; error = error; magnitudeSum = k; nonzeroPairs = n } ≡ report D ws fs
-    unfolding report
-    all k ek es =
-        rw (es, so-far .true-is, so-far .error-is, ek, so-far .pairs-is) (ap₂ (report D) (take-all i ws h) (take-all i fs (omega arith)))
-
     pub finished : {score : ℤ} {T : ℕ} → score ≡ trueSum -ℤ error → T ≡ natAbs ((trueSum -ℤ minus) -ℤ minus)
         → record { score = score; trueSum = trueSum; error = error; magnitudeSum = T; nonzeroPairs = n } ≡ report D ws fs
-    finished es eT = all _ (eT ∙ ap natAbs (so-far .magnitude-is)) (es ∙ score-is)
+    unfolding report
+    finished es eT =
+        rw (es ∙ score-is, eT ∙ ap natAbs (so-far .magnitude-is), so-far .true-is, so-far .error-is, so-far .pairs-is)
+        (ap₂ (report D) (take-all i ws h) (take-all i fs (omega arith)))
 
     pub finished-residues : after ≡ residues D ws fs ++ drop (length ws) before
     finished-residues =

@@ -1,23 +1,23 @@
 -- `near_power` reads the bit of 2 × x below its leading one. Assumes nothing.
 use borrow.Author.Needs.{needs}
 use mathlib.Core.Path.{_≡_, ap, _∙_}
-use Prim.Native.Nat.{ℕ, _+_, _*_, _/_, _%_, _^_}
+use Prim.Native.Nat.{ℕ, _+_, _/_, _%_, _^_}
 use lib.Bits.{bitAnd, and-mask}
 use Rattle.designs.specs.Designs.{nearPower}
-use Rattle.kernels.proofs.Wrapping.{lead, doubled}
+use Rattle.kernels.proofs.Wrapping.{lead, bit-mod}
 use native.Mathlib.Omega.{arith}
 use Rattle.kernels.proofs.near_power.Statement.{statement}
 use Rattle.kernels.proofs.near_power.Tie as tie
 
 near-at : (c : tie.After-wrapping-add-u32)
-    → c .before .log2-floor .result + c .before .before .args .x * 2 ^ 1 / 2 ^ c .before .log2-floor .result % 2 ≡ nearPower (c .before .before .args .x)
+    → c .before .log2-floor .result + (c .before .before .args .x + c .before .before .args .x) / 2 ^ c .before .log2-floor .result % 2 ≡ nearPower (c .before .before .args .x)
 near-at c = lead _ _ (c .before .before .pre) (c .before .log2-floor .ensures .is)
 
 bit : (c : tie.After-wrapping-add-u32)
-    → bitAnd (c .wrapping-add-u32 .result / 2 ^ c .before .log2-floor .result) 1 ≡ c .before .before .args .x * 2 ^ 1 / 2 ^ c .before .log2-floor .result % 2
+    → bitAnd (c .wrapping-add-u32 .result / 2 ^ c .before .log2-floor .result) 1 ≡ (c .before .before .args .x + c .before .before .args .x) / 2 ^ c .before .log2-floor .result % 2
 bit c =
     and-mask _ 1 ∙ ap (λ (y : ℕ). y / 2 ^ c .before .log2-floor .result % 2) (c .wrapping-add-u32 .ensures)
-    ∙ doubled 32 (c .before .before .args .x) (c .before .log2-floor .result) (c .before .log2-floor .ensures .small)
+    ∙ bit-mod 32 (c .before .before .args .x + c .before .before .args .x) (c .before .log2-floor .result) (c .before .log2-floor .ensures .small)
 
 add-result : tie.Need-add-result
 add-result c = record { fits = omega (arith, bit c, c .before .log2-floor .ensures .small) }

@@ -2,12 +2,12 @@
 -- Assumes nothing.
 use borrow.Author.Needs.{needs}
 use mathlib.Core.Path.{_≡_, sym, ap, ap₂, _∙_}
-use Prim.Native.Nat.{ℕ, max, _+_, _-_, _*_, _/_, _%_, _^_, _≤_}
+use Prim.Native.Nat.{ℕ, max, _+_, _-_, _*_, _/_, _%_, _^_, _≤_, _<_}
 use native.Mathlib.Nat.{min-le-right, mod-eq-of-lt}
 use native.Mathlib.Omega.{arith}
 use lib.Bits.{bitAnd}
 use lib.Pow.{pow-mono}
-use Rattle.designs.specs.Designs.{kept, truncated, product}
+use Rattle.designs.specs.Designs.{kept, log2, truncated, product}
 use Rattle.designs.proofs.Carried.{carried, carried-top}
 use Rattle.designs.proofs.Parts.{up-to}
 use Rattle.designs.proofs.Truncated.{total}
@@ -44,8 +44,12 @@ one c = c .power .result * 2 ^ t (c .before) % 2 ^ 64
 one-is : (c : tie.After-power) → one c ≡ 2 ^ 31
 one-is c = ap (λ (x : ℕ). x % 2 ^ 64) (ap (λ (x : ℕ). x * 2 ^ t (c .before)) (c .power .ensures) ∙ sym (up-to 31 (t (c .before)) (small (c .before))))
 
-mask-is : (c : tie.After-power) → one c - c .power .result ≡ 2 ^ 31 - 2 ^ (31 - t (c .before))
-mask-is c = ap₂ _-_ (one-is c) (c .power .ensures)
+abbrev mask : tie.After-power → ℕ
+mask c = one c - c .power .result
+
+-- so masked, an operand that is moved up by its headroom is its kept fraction
+masked : (c : tie.After-power) (x k : ℕ) {n : ℕ} → 0 < x → k + log2 x ≡ 31 → n ≡ x * 2 ^ k → bitAnd n (mask c) ≡ kept (t (c .before)) x * 2 ^ (31 - t (c .before))
+masked c x k p e h = ap₂ bitAnd h (ap₂ _-_ (one-is c) (c .power .ensures)) ∙ kept-is 31 x k _ p e (small (c .before))
 
 sub-mask : tie.Need-sub-mask
 sub-mask c = omega (arith, one-is c, c .power .ensures, pow-mono {i = 31 - t (c .before)} {j = 31} (omega arith))
@@ -58,15 +62,13 @@ abbrev moved : tie.After-shifted2 → ℕ
 moved c = total (t (rooms c)) (start (rooms c) .args .a) (start (rooms c) .args .b) * 2 ^ (31 - t (rooms c))
 
 module _ (c : tie.After-shifted2) where
-  first : bitAnd (c .before .shifted .result) (one (c .before .before) - c .before .before .power .result) ≡ kept (t (rooms c)) (start (rooms c) .args .a) * 2 ^ (31 - t (rooms c))
-  first = ap₂ bitAnd (c .before .shifted .ensures) (mask-is (c .before .before)) ∙ kept-is 31 _ _ _ (omega arith) (rooms c .before .headroom .ensures) (small (rooms c))
+  first : bitAnd (c .before .shifted .result) (mask (c .before .before)) ≡ kept (t (rooms c)) (start (rooms c) .args .a) * 2 ^ (31 - t (rooms c))
+  first = masked (c .before .before) _ _ (omega arith) (rooms c .before .headroom .ensures) (c .before .shifted .ensures)
 
-  second : bitAnd (c .shifted2 .result) (one (c .before .before) - c .before .before .power .result) ≡ kept (t (rooms c)) (start (rooms c) .args .b) * 2 ^ (31 - t (rooms c))
-  second = ap₂ bitAnd (c .shifted2 .ensures) (mask-is (c .before .before)) ∙ kept-is 31 _ _ _ (omega arith) (rooms c .headroom2 .ensures) (small (rooms c))
+  second : bitAnd (c .shifted2 .result) (mask (c .before .before)) ≡ kept (t (rooms c)) (start (rooms c) .args .b) * 2 ^ (31 - t (rooms c))
+  second = masked (c .before .before) _ _ (omega arith) (rooms c .headroom2 .ensures) (c .shifted2 .ensures)
 
-  s-is :
-      bitAnd (c .before .shifted .result) (one (c .before .before) - c .before .before .power .result) + bitAnd (c .shifted2 .result) (one (c .before .before) - c .before .before .power .result) + c .before .before .power .result
-      ≡ moved c
+  s-is : bitAnd (c .before .shifted .result) (mask (c .before .before)) + bitAnd (c .shifted2 .result) (mask (c .before .before)) + c .before .before .power .result ≡ moved c
   s-is = ap₂ _+_ (ap₂ _+_ first second) (c .before .before .power .ensures) ∙ sum-at (rooms c) .whole
 
 add-s : tie.Need-add-s

@@ -55,18 +55,31 @@ w c = getD (entry c .args .weights .now) (i c) (pos 0)
 abbrev x : Turn → ℤ
 x c = getD (entry c .args .frame .now) (i c) (pos 0)
 
+-- the sums before it
+abbrev true-sum : Turn → ℤ
+true-sum c = toZ w64 (c .before .before .before .loop .true-sum)
+
+abbrev minus-sum : Turn → ℤ
+minus-sum c = toZ w64 (c .before .before .before .loop .minus-sum)
+
+abbrev error : Turn → ℤ
+error c = toZ w64 (c .before .before .before .loop .error)
+
+abbrev zeros : Turn → ℕ
+zeros c = c .before .before .before .loop .zeros
+
 -- its residue, and the sums with it, as they are meant
 abbrev residue-of : Turn → ℤ
 residue-of c = residue (D c) (w c) (x c)
 
 abbrev summed : Turn → ℤ
-summed c = toZ w64 (c .before .before .before .loop .true-sum) +ℤ w c *ℤ x c
+summed c = true-sum c +ℤ w c *ℤ x c
 
 abbrev lowered : Turn → ℤ
-lowered c = toZ w64 (c .before .before .before .loop .minus-sum) +ℤ below (w c *ℤ x c)
+lowered c = minus-sum c +ℤ below (w c *ℤ x c)
 
 abbrev erred : Turn → ℤ
-erred c = toZ w64 (c .before .before .before .loop .error) +ℤ residue-of c
+erred c = error c +ℤ residue-of c
 
 abbrev written : Turn → ℤ → List ℤ
 written c z = set (c .before .before .before .loop .residues) (i c) z
@@ -86,7 +99,7 @@ module _ (c : Turn) where
   small : Bounds (D c) (w c) (x c)
   small = bounds (D c) (w c) (x c) (entry c .pre .keeps) w-fits x-fits
 
-  next-at : Then c (written c (residue-of c)) (summed c) (lowered c) (erred c) (i c - c .before .before .before .loop .zeros + nonzero (w c) (x c))
+  next-at : Then c (written c (residue-of c)) (summed c) (lowered c) (erred c) (i c - zeros c + nonzero (w c) (x c))
   next-at = next (D c) _ _ _ _ (i c) _ _ _ _ (omega arith) (entry c .pre .lengths) (entry c .pre .places) (c .before .before .before .loop .inv .1) small
 
   true-fits : SFits w64 (summed c)
@@ -127,8 +140,8 @@ loop-again c =
     let zero = zero-at (c .before .before .before) in
     let none = zero-pair (D turn) (w turn) (x turn) zero in (
       omega (arith, loop .inv .0),
-      equally (c .before .write .ensures ∙ ap (written turn) (sym (none .residue-is))) (nothing (toZ w64 (loop .true-sum)) (none .truth-is))
-          (nothing (toZ w64 (loop .minus-sum)) (ap below (none .truth-is))) (nothing (toZ w64 (loop .error)) (none .residue-is)) (omega (arith, zero))
+      equally (c .before .write .ensures ∙ ap (written turn) (sym (none .residue-is))) (nothing (true-sum turn) (none .truth-is))
+          (nothing (minus-sum turn) (ap below (none .truth-is))) (nothing (error turn) (none .residue-is)) (omega (arith, zero))
           (next-at turn),
     )
   where
@@ -172,19 +185,19 @@ module _ (c : Full) where
       ∙ (simp (toZ-ofZ (w-fits (turn-of c)), toZ-ofZ (x-fits (turn-of c)), entry (turn-of c) .pre .serves) at (c .product-of-sizes .ensures))
 
   -- the error with a residue z, if that is the one that is meant
-  erred-is : {z : ℤ} → z ≡ residue-of (turn-of c) → toZ w64 (turn-of c .before .before .before .loop .error) +ℤ back z ≡ erred (turn-of c)
-  erred-is e = ap (λ (r : ℤ). toZ w64 (turn-of c .before .before .before .loop .error) +ℤ r) (ap back e ∙ toZ-ofZ (residue-fits (turn-of c)))
+  erred-is : {z : ℤ} → z ≡ residue-of (turn-of c) → error (turn-of c) +ℤ back z ≡ erred (turn-of c)
+  erred-is e = ap (λ (r : ℤ). error (turn-of c) +ℤ r) (ap back e ∙ toZ-ofZ (residue-fits (turn-of c)))
 
   -- the next turn then goes on with the code's numbers
   on : {after : List ℤ} {m z : ℤ} → after ≡ written (turn-of c) (back z) → z ≡ residue-of (turn-of c) → m ≡ lowered (turn-of c)
-      → (turn-of c .before .before .before .loop .zeros ≤ i (turn-of c) + 1)
-      × Then (turn-of c) after (back (toZ w64 (turn-of c .before .before .before .loop .true-sum) +ℤ truth c)) m
-      (back (toZ w64 (turn-of c .before .before .before .loop .error) +ℤ back z)) (i (turn-of c) + 1 - turn-of c .before .before .before .loop .zeros)
+      → (zeros (turn-of c) ≤ i (turn-of c) + 1)
+      × Then (turn-of c) after (back (true-sum (turn-of c) +ℤ truth c)) m
+      (back (error (turn-of c) +ℤ back z)) (i (turn-of c) + 1 - zeros (turn-of c))
   on ea er em =
       let loop = turn-of c .before .before .before .loop in (
         omega (arith, loop .inv .0),
         equally (ea ∙ ap (written (turn-of c)) (ap back er ∙ toZ-ofZ (residue-fits (turn-of c))))
-            (ap (λ (z : ℤ). back (toZ w64 (loop .true-sum) +ℤ z)) truth-back ∙ toZ-ofZ (true-fits (turn-of c))) em
+            (ap (λ (z : ℤ). back (true-sum (turn-of c) +ℤ z)) truth-back ∙ toZ-ofZ (true-fits (turn-of c))) em
             (ap back (erred-is er) ∙ toZ-ofZ (error-fits (turn-of c)))
             (omega (arith, loop .inv .0, counted (D (turn-of c)) (w (turn-of c)) (x (turn-of c)) full-at)) (next-at (turn-of c)),
       )
@@ -193,14 +206,14 @@ product-of-sizes-requires : tie.Need-product-of-sizes-requires Inv-loop μ-loop
 product-of-sizes-requires c κs = c .before .before .before .before .before .before .before .pre .known
 
 add-true-sum : tie.Need-add-true-sum Inv-loop μ-loop
-add-true-sum c = fits-as (ap (λ (z : ℤ). toZ w64 (turn-of c .before .before .before .loop .true-sum) +ℤ z) (truth-back c)) (true-fits (turn-of c))
+add-true-sum c = fits-as (ap (λ (z : ℤ). true-sum (turn-of c) +ℤ z) (truth-back c)) (true-fits (turn-of c))
 
 -- a true product below 0 goes to both sums, and the design's is added to it
 module _ (c : tie.Then2 Inv-loop μ-loop) where
-  minus-is : toZ w64 (turn-of (c .before) .before .before .before .loop .minus-sum) +ℤ truth (c .before) ≡ lowered (turn-of (c .before))
+  minus-is : minus-sum (turn-of (c .before)) +ℤ truth (c .before) ≡ lowered (turn-of (c .before))
   minus-is =
       let turn = turn-of (c .before) in
-      ap (λ (z : ℤ). toZ w64 (turn .before .before .before .loop .minus-sum) +ℤ z)
+      ap (λ (z : ℤ). minus-sum turn +ℤ z)
       (truth-back (c .before) ∙ sym (below-minus (w turn *ℤ x turn) (sign-is (c .before) (c .if2 .taken))))
 
   more-residue : truth (c .before) +ℤ back (c .before .product-of-sizes .result) ≡ residue-of (turn-of (c .before))
@@ -246,7 +259,7 @@ loop-again-3 : tie.Need-loop-again-3 Inv-loop μ-loop
 loop-again-3 c =
     let plus = c .before .before .before in
     let turn = turn-of (plus .before) in
-    let minus = toZ w64 (turn .before .before .before .loop .minus-sum) in
+    let minus = minus-sum turn in
     on (plus .before) (c .before .write3 .ensures) (less-residue plus)
     (sym (ap (λ (z : ℤ). minus +ℤ z) (below-plus (w turn *ℤ x turn) (sign-is (plus .before) (plus .if2 .left))) ∙ +ℤ-idr minus))
 
@@ -273,6 +286,9 @@ module _ (c : tie.After-loop Inv-loop μ-loop) where
   turned-fits : SFits w64 (trueSum -ℤ minusSum -ℤ minusSum)
   turned-fits = fits-as (c .before .loop .inv .1 .magnitude-is) (sized _ (omega (arith, c .before .loop .inv .1 .magnitude-size, few)))
 
+  turned-back : back (back (trueSum -ℤ minusSum) -ℤ minusSum) ≡ trueSum -ℤ minusSum -ℤ minusSum
+  turned-back = ap back turned-is ∙ toZ-ofZ turned-fits
+
 sub-t34 : tie.Need-sub-t34 Inv-loop μ-loop
 sub-t34 c = score-fits c
 
@@ -283,7 +299,7 @@ sub-t36 : tie.Need-sub-t36 Inv-loop μ-loop
 sub-t36 c = fits-as (turned-is c) (turned-fits c)
 
 cast-t37 : tie.Need-cast-t37 Inv-loop μ-loop
-cast-t37 c = rw (turned-is c, toZ-ofZ (turned-fits c)) (rw (c .before .loop .inv .1 .magnitude-is) tt, fits-natAbs tt (turned-fits c))
+cast-t37 c = rw (turned-back c) (rw (c .before .loop .inv .1 .magnitude-is) tt, fits-natAbs tt (turned-fits c))
 
 sub-t40 : tie.Need-sub-t40 Inv-loop μ-loop
 sub-t40 c = omega (arith, c .before .loop .inv .0, c .before .loop .inv .1 .within)
@@ -297,13 +313,13 @@ returns c =
     let pre = c .before .before .pre in
     let all = equally {n' = length (c .before .before .args .weights .now) - at .zeros} refl refl refl refl (omega (arith, at .inv .1 .within, c .loop-test .left)) (at .inv .1) in
     record {
-      is = finished all (c .loop-test .left) (pre .lengths) (toZ-ofZ (score-fits c)) (ap natAbs (ap back (turned-is c) ∙ toZ-ofZ (turned-fits c)));
+      is = finished all (c .loop-test .left) (pre .lengths) (toZ-ofZ (score-fits c)) (ap natAbs (turned-back c));
       written = finished-residues all (c .loop-test .left) (pre .lengths);
       small = record {
         score = omega (arith, all .score-size, few c, ap natAbs (toZ-ofZ (score-fits c) ∙ score-is all));
         trueSum = omega (arith, all .true-size, few c);
         error = omega (arith, all .error-size, few c);
-        magnitudeSum = omega (arith, all .magnitude-size, few c, ap natAbs (ap back (turned-is c) ∙ toZ-ofZ (turned-fits c) ∙ all .magnitude-is));
+        magnitudeSum = omega (arith, all .magnitude-size, few c, ap natAbs (turned-back c ∙ all .magnitude-is));
       };
     }
 
