@@ -130,7 +130,7 @@ static inline __attribute__((always_inline)) highvane_report accumulate(uint32_t
 
 static inline uint32_t refusal_of(uint32_t design, uint32_t setting, size_t weights_len, size_t frame_len, size_t residues_len) {
     if (design - 1 > 3) return HIGHVANE_UNKNOWN_DESIGN;
-    if (design < HIGHVANE_STAGED ? setting != 0 : setting - 1 > 18 - design) return HIGHVANE_SETTING_NOT_TAKEN;
+    if (design < HIGHVANE_STAGED ? setting != 0 : setting - 1 > 18 - design) return HIGHVANE_SETTING_OUT_OF_RANGE;
     if (weights_len != frame_len) return HIGHVANE_LENGTHS_DIFFER;
     if (weights_len > HIGHVANE_PAIRS_MAX) return HIGHVANE_TOO_MANY_PAIRS;
     if (residues_len < weights_len) return HIGHVANE_RESIDUES_TOO_SHORT;

@@ -37,17 +37,17 @@ enum highvane_refusal {
     HIGHVANE_ACCEPTED = 0,
     HIGHVANE_UNKNOWN_DESIGN = 1,        /* the design is not 1 to 4 */
     HIGHVANE_UNKNOWN_WIDTH = 2,         /* the width is not 8, 16 or 32 */
-    HIGHVANE_SETTING_NOT_TAKEN = 3,     /* the setting is not one that the design takes */
+    HIGHVANE_SETTING_OUT_OF_RANGE = 3,  /* the setting is not one that the design takes */
     HIGHVANE_OPERAND_OUTSIDE_WIDTH = 4, /* an operand is not 0 to 2^w - 1, or, signed, not -2^(w-1) to 2^(w-1) - 1 */
     HIGHVANE_LENGTHS_DIFFER = 5,        /* weights and frame differ in length */
     HIGHVANE_TOO_MANY_PAIRS = 6,        /* the row has more than HIGHVANE_PAIRS_MAX pairs */
     HIGHVANE_RESIDUES_TOO_SHORT = 7,    /* the buffer for the residues is shorter than the row */
     HIGHVANE_NOT_FINITE = 8,            /* an operand is infinite or NaN */
-    HIGHVANE_SUBNORMAL = 9,             /* an operand is subnormal: exponent field 0, fraction not 0 */
+    HIGHVANE_SUBNORMAL = 9,             /* an operand is subnormal: its exponent field is 0, and its fraction is not */
     HIGHVANE_EXPONENT_TOO_LARGE = 10,   /* the result's exponent field would pass 254 */
     HIGHVANE_EXPONENT_TOO_SMALL = 11,   /* the result's exponent field would be below 1 */
     HIGHVANE_COLUMNS_OUT_OF_RANGE = 12, /* the columns are 0 or more than HIGHVANE_PAIRS_MAX */
-    HIGHVANE_UNEVEN_STORE = 13,         /* the store's length is not a multiple of the columns */
+    HIGHVANE_UNEVEN_STORE = 13,         /* the columns do not divide the store's length */
     HIGHVANE_NO_SUCH_ROW = 14,          /* the row number is not below the store's length / columns */
     HIGHVANE_SHIFT_TOO_LARGE = 15,      /* the shift is above HIGHVANE_SHIFT_MAX */
     HIGHVANE_SIZE_TOO_LARGE = 16,       /* the score or T is above 2^53 in size */
@@ -74,7 +74,7 @@ typedef struct { float value; uint32_t refusal; } highvane_single;
 highvane_unsigned highvane_product_unsigned(uint32_t design, uint32_t width, uint32_t setting, uint64_t a, uint64_t b);
 
 /*
- * The same for signed operands: the design works on their sizes, and the product is negative when exactly one operand is.
+ * The same for signed operands: the design's product of their sizes, with a minus sign where their signs differ.
  * Refusals: 1, 2, 3, 4.
  */
 highvane_signed highvane_product_signed(uint32_t design, uint32_t width, uint32_t setting, int64_t a, int64_t b);
@@ -100,7 +100,7 @@ highvane_report highvane_score_row(uint32_t design, uint32_t setting, const int1
                                    const int16_t *frame, size_t frame_len, int64_t *residues, size_t residues_len);
 
 /*
- * Judges a row of a weight store, in which rows of `columns` weights lie one after another; row numbers start at 0. Gives 0 where
+ * Judges a row of a weight store, in which rows of `columns` weights lie one after another, the first numbered 0. Gives 0 where
  * the row is there, `columns` weights from store + row * columns on, and otherwise the refusal's number. The answer depends on
  * the three numbers alone.
  * Refusals: 12, 13, 14.
@@ -114,8 +114,8 @@ uint32_t highvane_row_refusal(const int16_t *store, size_t store_len, size_t col
 highvane_scaled highvane_scale(int64_t score, uint64_t magnitude_sum, uint32_t shift);
 
 /*
- * Mitchell's product of two binary32 numbers, which come as their 32-bit patterns. A zero operand gives zero. The sign of the
- * result, also of a zero, is minus when exactly one operand's sign is. Nothing is rounded.
+ * Mitchell's product of two binary32 numbers, which come as their 32-bit patterns. A zero operand gives zero. The result, also a
+ * zero, has a minus sign where the operands' signs differ. Nothing is rounded.
  * Refusals: 8, 9; then, unless an operand is zero, 10, 11.
  */
 highvane_single highvane_single_product(uint32_t a, uint32_t b);
@@ -129,7 +129,7 @@ uint16_t highvane_table_product(uint8_t a, uint8_t b);
 /*
  * Reads records and writes a line for each and then the total, as ASCII text with no 0 at its end. Gives the number of bytes
  * written; later places of `out` keep what they held. A record is one byte of kind and a body, low bytes first:
- *   kind 1, 6 bytes  design and setting (a byte each), two signed 16-bit operands: the signed product at width 16
+ *   kind 1, 6 bytes  a byte for the design, one for the setting, two signed operands of 16 bits: the signed product at width 16
  *   kind 2, 8 bytes  two 32-bit patterns: the single product, printed as a pattern
  *   kind 3, 2 bytes  two bytes: the table product
  * A line is "KIND ok RESULT" or "KIND no REFUSAL", in decimal; the last is "total ACCEPTED REFUSED". A line feed ends each line.

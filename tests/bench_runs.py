@@ -3,7 +3,7 @@
 
     python3 tests/bench_runs.py PROGRAM
 
-What it should print is written here from the scope document alone; the results of the operations come from tools/reference.py, which
+What it should print comes from the reference program (tools/reference_meaning), which was written from the scope document alone and
 shares nothing with the library. Prints the number of runs; the first that differs is shown, and the exit status is then 1.
 """
 import pathlib
@@ -17,48 +17,7 @@ sys.path.insert(0, str(ROOT / 'tools'))
 sys.dont_write_bytecode = True
 
 import records
-import reference
-
-LIMIT = 65536
-BODY = {1: 6, 2: 8, 3: 2}
-
-
-def number(field):
-    return int.from_bytes(field, 'little')
-
-
-def signed(field):
-    return int.from_bytes(field, 'little', signed=True)
-
-
-def outcome(kind, body):
-    """The refusal number, or 0, and the result of a record with a whole body."""
-    if kind == 1:
-        case = reference.ProductInput(reference.SIGNED, body[0], 16, body[1], signed(body[2:4]), signed(body[4:6]))
-        return reference.product_outcome(case)
-    if kind == 2:
-        return reference.single_outcome(reference.SingleInput(number(body[:4]), number(body[4:])))
-    return 0, reference.unsigned_product(1, 0, *body)
-
-
-def expected(data):
-    """The whole output for an input."""
-    if len(data) > LIMIT:
-        return '0 no 19\ntotal 0 1\n'
-    lines, counts, at = [], [0, 0], 0
-    while at < len(data):
-        kind = data[at]
-        body = data[at + 1:at + 1 + BODY.get(kind, 0)]
-        at += 1 + len(body)
-        if kind not in BODY:
-            refusal, at = 17, len(data)
-        elif len(body) < BODY[kind]:
-            refusal, at = 18, len(data)
-        else:
-            refusal, result = outcome(kind, body)
-        lines.append(f'{kind} no {refusal}' if refusal else f'{kind} ok {result}')
-        counts[refusal != 0] += 1
-    return '\n'.join(lines + [f'total {counts[0]} {counts[1]}', ''])
+from reference_meaning.records import KINDS, MAX_INPUT, transcript
 
 
 def run(program, pieces):
@@ -80,7 +39,7 @@ SINGLE = bytes.fromhex('02 00 00 C0 3F 00 00 C0 3F')
 TABLE = bytes.fromhex('03 FF FF')
 WHOLE = PRODUCT + SINGLE + TABLE
 
-# A record for each refusal of each operation, and the ends of what is taken. Refusals 2 and 4 of the product cannot come from a
+# A record for each refusal of each operation, and the ends of what is accepted. Refusals 2 and 4 of the product cannot come from a
 # record: its width is 16, and a field of 16 bits holds no other number.
 EACH_REFUSAL = '''
 product 0 0 3 3                 # 1
@@ -112,11 +71,11 @@ table 1 1
 
 
 def random_input(rng, length):
-    """Records that mostly are whole and mostly are taken."""
+    """Records that mostly are whole and mostly are accepted."""
     data = bytearray()
     while len(data) < length:
         kind = rng.choice((1, 1, 2, 2, 3))
-        body = bytearray(rng.randbytes(BODY[kind]))
+        body = bytearray(rng.randbytes(KINDS[kind].length))
         if kind == 1:
             body[0], body[1] = rng.choice(((1, 0), (2, 0), (3, rng.randint(0, 17)), (4, rng.randint(0, 16)), (rng.randint(0, 6), 0)))
         data += bytes([kind]) + body
@@ -133,28 +92,28 @@ def inputs():
             yield f'kind {kind} cut to {length} bytes', [record[:length]]
             yield f'kind {kind} cut to {length} bytes, last', [WHOLE + record[:length]]
     for kind in range(256):
-        if kind not in BODY:
+        if kind not in KINDS:
             yield f'kind {kind} first', [bytes([kind]) + WHOLE]
     for kind in (0, 4, 255):
         yield f'kind {kind} alone', [bytes([kind])]
         yield f'kind {kind} last', [WHOLE + bytes([kind])]
     # 21,845 records of three bytes, each with the most digits that a byte's product has, then one byte: the longest output
-    longest = TABLE * (LIMIT // 3)
+    longest = TABLE * (MAX_INPUT // 3)
     yield 'the longest output', [longest + bytes([255])]
     yield 'the longest output, cut', [longest + TABLE[:1]]
     yield '65,535 bytes', [longest]
     yield '65,537 bytes', [longest + TABLE[:2]]
     yield '65,538 bytes', [longest + TABLE]
     yield '200,000 bytes', [bytes(200000)]
-    yield '65,536 bytes of kind 0', [bytes(LIMIT)]
+    yield '65,536 bytes of kind 0', [bytes(MAX_INPUT)]
     pairs = b''.join(bytes([3, a, b]) for a in range(256) for b in range(256))
     for start in range(0, len(pairs), len(longest)):
         yield f'all pairs of the table, from byte {start}', [pairs[start:start + len(longest)]]
     rng = random.Random(20261115)
-    for length in [rng.randint(1, 400) for _ in range(60)] + [LIMIT - 1, LIMIT, LIMIT + 1]:
+    for length in [rng.randint(1, 400) for _ in range(60)] + [MAX_INPUT - 1, MAX_INPUT, MAX_INPUT + 1]:
         yield f'{length} random bytes', [random_input(rng, length)]
     yield 'one byte at a time', [WHOLE[i:i + 1] for i in range(len(WHOLE))]
-    data = random_input(rng, LIMIT)
+    data = random_input(rng, MAX_INPUT)
     yield '65,536 bytes in pieces', [data[:1], data[1:5000], data[5000:65535], data[65535:]]
     yield '65,537 bytes in pieces', [data[:40000], data[40000:], b'\x01']
 
@@ -163,7 +122,7 @@ def main():
     program, runs, longest = sys.argv[1], 0, 0
     for what, pieces in inputs():
         output, status = run(program, pieces)
-        wanted = expected(b''.join(pieces)).encode()
+        wanted = transcript(b''.join(pieces)).encode()
         if output != wanted or status != 0:
             print(f'{what}: exit status {status}, {len(output)} bytes printed, {len(wanted)} expected')
             for count, (given, line) in enumerate(zip(output.split(b'\n'), wanted.split(b'\n')), 1):

@@ -8,8 +8,8 @@ import sys
 
 if len(sys.argv) != 2:
     sys.exit(__doc__)
-# the tests from outside prove crates too; the gate proper begins after them
-gate = open(sys.argv[1]).read().rpartition('== proofs, must-fail edits and programs')[2]
+# the tests from outside come after it, and prove a crate again for the archive
+gate = open(sys.argv[1]).read().partition('== proofs, must-fail edits and programs')[2].partition('\n== ')[0]
 proofs = {name: int(seconds) for name, seconds in re.findall(r'^rt: (\w+) proved \((\d+) s\)', gate, re.M)}
 edits = {}
 for name, seconds in re.findall(r'^rt: must-fail (\w+)/.*?; (\d+) s\)$', gate, re.M):

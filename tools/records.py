@@ -7,8 +7,8 @@
 A line is one record; what follows a # is a comment, and an empty line is passed over:
 
     product DESIGN SETTING A B      kind 1: a signed product at width 16
-    single A B                      kind 2: two binary32 patterns
-    table A B                       kind 3: two bytes for the table
+    single A B                      kind 2: a product of two binary32 patterns
+    table A B                       kind 3: a product of two bytes by the table
     bytes XX XX ..                  raw bytes in hexadecimal, for records that are no records
 
 Numbers are decimal, or hexadecimal after 0x. A number that its field cannot hold is an error here; whether the library accepts it is

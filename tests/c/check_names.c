@@ -1,4 +1,4 @@
-/* The header's names: each refusal's, against a call that is refused for what the name says; and the limits, which are taken. */
+/* The header's names: each refusal's, against a call that is refused for what the name says; and the limits, which are accepted. */
 #include "checks.h"
 
 #include <stdio.h>
@@ -27,11 +27,11 @@ static uint32_t in_text(uint8_t kind, size_t input_len) {
 void check_names(void) {
     NAMED(HIGHVANE_UNKNOWN_DESIGN, highvane_product_unsigned(HIGHVANE_MITCHELL - 1, 8, 0, 1, 1).refusal);
     NAMED(HIGHVANE_UNKNOWN_DESIGN, highvane_product_unsigned(HIGHVANE_TRUNCATED + 1, 8, 0, 1, 1).refusal);
-    NAMED(HIGHVANE_UNKNOWN_WIDTH, highvane_product_signed(HIGHVANE_MITCHELL, 12, 0, 1, 1).refusal);
-    NAMED(HIGHVANE_SETTING_NOT_TAKEN, highvane_product_signed(HIGHVANE_NEAREST_POWER, 8, 1, 1, 1).refusal);
-    NAMED(HIGHVANE_SETTING_NOT_TAKEN, highvane_product_signed(HIGHVANE_STAGED, 8, 9, 1, 1).refusal);
+    NAMED(HIGHVANE_UNKNOWN_WIDTH, highvane_product_signed(HIGHVANE_MITCHELL, 7, 0, 1, 1).refusal);
+    NAMED(HIGHVANE_SETTING_OUT_OF_RANGE, highvane_product_signed(HIGHVANE_NEAREST_POWER, 8, 1, 1, 1).refusal);
+    NAMED(HIGHVANE_SETTING_OUT_OF_RANGE, highvane_product_signed(HIGHVANE_STAGED, 8, 9, 1, 1).refusal);
     NAMED(HIGHVANE_ACCEPTED, highvane_product_signed(HIGHVANE_STAGED, 8, 8, 1, 1).refusal);
-    NAMED(HIGHVANE_SETTING_NOT_TAKEN, highvane_product_signed(HIGHVANE_TRUNCATED, 8, 8, 1, 1).refusal);
+    NAMED(HIGHVANE_SETTING_OUT_OF_RANGE, highvane_product_signed(HIGHVANE_TRUNCATED, 8, 8, 1, 1).refusal);
     NAMED(HIGHVANE_OPERAND_OUTSIDE_WIDTH, highvane_product_unsigned(HIGHVANE_MITCHELL, 8, 0, 256, 1).refusal);
     NAMED(HIGHVANE_LENGTHS_DIFFER, score(2, 3, 3));
     NAMED(HIGHVANE_TOO_MANY_PAIRS, score(HIGHVANE_PAIRS_MAX + 1, HIGHVANE_PAIRS_MAX + 1, HIGHVANE_PAIRS_MAX + 1));
@@ -48,7 +48,7 @@ void check_names(void) {
     NAMED(HIGHVANE_SHIFT_TOO_LARGE, highvane_scale(0, 0, HIGHVANE_SHIFT_MAX + 1).refusal);
     NAMED(HIGHVANE_ACCEPTED, highvane_scale(0, 0, HIGHVANE_SHIFT_MAX).refusal);
     NAMED(HIGHVANE_SIZE_TOO_LARGE, highvane_scale(INT64_MIN, 0, 0).refusal);
-    NAMED(HIGHVANE_UNKNOWN_KIND, in_text(4, 1));
+    NAMED(HIGHVANE_UNKNOWN_KIND, in_text(255, 1));
     NAMED(HIGHVANE_CUT_SHORT, in_text(3, 2));
     NAMED(HIGHVANE_INPUT_TOO_LONG, in_text(3, HIGHVANE_INPUT_MAX + 1));
     NAMED(HIGHVANE_ACCEPTED, in_text(3, HIGHVANE_INPUT_MAX));

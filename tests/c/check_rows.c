@@ -1,100 +1,88 @@
-/* Rows of every length around the limits, of every design and setting, taken and refused. */
-#include "compare_row.h"
+/* A vector of a row: its report, every place of its slices, and what lies around them. */
+#include <string.h>
 
-enum { MOST = 4097, SHORT = 64 };
+#include "lent.h"
+#include "vector_line.h"
 
-/* Two slices of numbers to make rows of, and memory to lend rows from. */
+/* More numbers than a slice of the vectors has. */
+enum { MOST = HIGHVANE_PAIRS_MAX + 16 };
+
 static int16_t weights[MOST], frame[MOST];
-static lendings any, small;
+static int64_t residues[MOST];
+static lent weights_memory, frame_memory, residues_memory;
 
-static void random_numbers(int16_t *numbers, size_t count) {
-    for (size_t i = 0; i < count; i++) {
-        int size = (int)random_bits(15);
-        numbers[i] = (int16_t)(random_number() % 2 ? size : -size - 1);
-        if (random_number() % 8 == 0)
-            numbers[i] = 0;
+static size_t next_list(vector *v, int16_t *numbers) {
+    size_t length = next_number(v, MOST);
+    for (size_t i = 0; i < length; i++)
+        numbers[i] = (int16_t)next_signed(v, INT16_MIN, INT16_MAX);
+    return length;
+}
+
+/*
+ * Each place holds a number of its own, which is its complement where the slice lies at an end: so a place that is written is seen,
+ * even if once what is written is what was there.
+ */
+static int64_t *lend_places(size_t places, enum place place) {
+    for (size_t i = 0; i < places; i++)
+        residues[i] = place == AT_START ? 1000000 + (int64_t)i : ~(1000000 + (int64_t)i);
+    return lend(&residues_memory, residues, places * sizeof *residues, place);
+}
+
+static void due_report(vector *v, const highvane_report *given) {
+    due(v, "refusal", given->refusal);
+    due_signed(v, "score", given->score);
+    due_signed(v, "true sum", given->true_sum);
+    due_signed(v, "error", given->error);
+    due(v, "T", given->magnitude_sum);
+    due(v, "n", given->nonzero_pairs);
+}
+
+static int same_report(const highvane_report *a, const highvane_report *b) {
+    return a->score == b->score && a->true_sum == b->true_sum && a->error == b->error && a->magnitude_sum == b->magnitude_sum
+           && a->nonzero_pairs == b->nonzero_pairs && a->refusal == b->refusal;
+}
+
+/* Slices that are only read may overlap: with a frame that begins `apart` places into the weights, the answer is that of a copy. */
+static void overlapping(uint32_t design, uint32_t setting, size_t length, size_t apart, enum place place) {
+    static int64_t residues_of_copy[MOST];
+    size_t pairs = length - apart;
+    const int16_t *lent_weights = lend(&weights_memory, weights, length * sizeof *weights, place);
+    const int16_t *copy = lend(&frame_memory, weights + apart, pairs * sizeof *weights, place);
+    int64_t *written = lend_places(pairs, place);
+    highvane_report of_copy = highvane_score_row(design, setting, lent_weights, pairs, copy, pairs, written, pairs);
+    if (pairs > 0)
+        memcpy(residues_of_copy, written, pairs * sizeof *written);
+    written = lend_places(pairs, place);
+    highvane_report given = highvane_score_row(design, setting, lent_weights, pairs, lent_weights + apart, pairs, written, pairs);
+    compare(same_report(&given, &of_copy), "design %" PRIu32 ", setting %" PRIu32 ": score %" PRId64 " where the frame begins %zu into %zu "
+            "weights, and %" PRId64 " with a copy of it", design, setting, given.score, apart, length, of_copy.score);
+    compare_lent(&residues_memory, residues_of_copy, "overlapping weights and frame, residues");
+    compare_lent(&weights_memory, weights, "overlapping weights and frame");
+}
+
+void row_vector(vector *v) {
+    if (weights_memory.pages == NULL) {
+        weights_memory = lent_pages(sizeof weights);
+        frame_memory = lent_pages(sizeof frame);
+        residues_memory = lent_pages(sizeof residues);
     }
-}
-
-/* Taken or refused, for one reason or for several. */
-static void lengths(void) {
-    static const size_t length[] = {0, 1, 2, 3, 7, 8, 9, 4095, 4096, 4097};
-    static const uint32_t design[] = {1, 2, 3, 4, 0, 5, 1, 2, 3, 3, 4, 4}, setting[] = {0, 0, 16, 15, 0, 1, 1, 16, 0, 17, 0, 16};
-    random_numbers(weights, MOST);
-    random_numbers(frame, MOST);
-    for (size_t d = 0; d < COUNT(design); d++)
-        for (size_t i = 0; i < COUNT(length); i++)
-            for (size_t j = 0; j < COUNT(length); j++)
-                for (size_t k = 0; k < COUNT(length); k++)
-                    for (enum place place = AT_START; place < PLACES; place++)
-                        compare_row(&any, &(row){design[d], setting[d], weights, length[i], frame, length[j], length[k]}, place);
-    part("rows: answers and all memory, lengths 0 to 4097 of the three slices in every combination");
-}
-
-static void judgements(void) {
-    static const size_t length[][3] = {{0, 0, 0}, {2, 2, 2}, {2, 2, 3}, {2, 2, 1}, {2, 3, 1}};
-    for (int i = 0; i < TRIED; i++)
-        for (int j = 0; j < TRIED; j++)
-            for (size_t k = 0; k < COUNT(length); k++)
-                compare_row(&small, &(row){tried[i], tried[j], weights, length[k][0], frame, length[k][1], length[k][2]},
-                            j % PLACES);
-    part("rows: designs and settings in and out of range with lengths that are right and wrong");
-}
-
-/* A row of a single pair shows where the third demand is met with equality. */
-static void single_pairs(void) {
-    int64_t numbers[2 * EDGES_MAX];
-    int16_t inside[2 * EDGES_MAX];
-    size_t all = signed_edges(15, numbers), count = 0;
-    for (size_t i = 0; i < all; i++)
-        if (numbers[i] >= INT16_MIN && numbers[i] <= INT16_MAX)
-            inside[count++] = (int16_t)numbers[i];
-    for (uint32_t design = 1; design <= 4; design++)
-        for (uint32_t setting = first_setting(design); setting <= last_setting(design, 16); setting++)
-            for (size_t i = 0; i < count; i++)
-                for (size_t j = 0; j < count; j++)
-                    compare_row(&small, &(row){design, setting, inside + i, 1, inside + j, 1, 1}, (i + j) % PLACES);
-    part("rows of one pair of boundaries, every design and setting");
-}
-
-/* Each row is lent as two slices and also with its frame inside the slice of its weights: the same numbers, or one place on. */
-static void random_rows(void) {
-    for (uint32_t design = 1; design <= 4; design++)
-        for (uint32_t setting = first_setting(design); setting <= last_setting(design, 16); setting++)
-            for (size_t i = 0; i < 200; i++) {
-                lendings *memory = i < 2 ? &any : &small;
-                size_t most = i < 2 ? 4096 : SHORT, count = most - random_number() % SHORT, apart = i % 2;
-                random_numbers(weights, most);
-                random_numbers(frame, most);
-                compare_row(memory, &(row){design, setting, weights, count, frame, count, most}, i % PLACES);
-                count -= apart;
-                compare_overlapping_row(memory, &(row){design, setting, weights, count, weights + apart, count, count}, apart,
-                                        i / 2 % PLACES);
-            }
-    part("random rows, every design and setting, with two slices and with one");
-}
-
-/* The largest sums, and a row that meets the third demand with equality: 24576 is 3 * 2^13. */
-static void full_rows(void) {
-    static const int16_t ends[] = {-32768, 32767, 24576, -1, 0};
-    for (uint32_t design = 1; design <= 4; design++)
-        for (uint32_t setting = first_setting(design); setting <= last_setting(design, 16); setting++)
-            for (size_t i = 0; i < COUNT(ends); i++) {
-                for (size_t j = 0; j < 4096; j++) {
-                    weights[j] = ends[i];
-                    frame[j] = i < 3 ? ends[i] : ends[j % COUNT(ends)];
-                }
-                compare_row(&any, &(row){design, setting, weights, 4096, frame, 4096, 4096}, i % PLACES);
-            }
-    part("rows of 4096 pairs of the ends of 16 bits, every design and setting");
-}
-
-void check_rows(void) {
-    any = lendings_of(MOST);
-    small = lendings_of(SHORT);
-    lengths();
-    judgements();
-    single_pairs();
-    random_rows();
-    full_rows();
+    uint32_t design = next_number(v, UINT32_MAX), setting = next_number(v, UINT32_MAX);
+    size_t weights_len = next_list(v, weights), frame_len = next_list(v, frame), places = next_number(v, MOST);
+    vector answer = *v;
+    for (enum place place = AT_START; place < PLACES; place++) {
+        *v = answer;
+        int64_t *written = lend_places(places, place);
+        highvane_report given = highvane_score_row(
+            design, setting, lend(&weights_memory, weights, weights_len * sizeof *weights, place), weights_len,
+            lend(&frame_memory, frame, frame_len * sizeof *frame, place), frame_len, written, places);
+        due_report(v, &given);
+        size_t count = given.refusal == HIGHVANE_ACCEPTED ? weights_len : 0;
+        due(v, "number of residues", count);
+        for (size_t i = 0; i < count; i++)
+            residues[i] = next_signed(v, INT64_MIN, INT64_MAX);
+        compare_lent(&residues_memory, residues, "highvane_score_row, residues");
+        compare_lent(&weights_memory, weights, "highvane_score_row, weights");
+        compare_lent(&frame_memory, frame, "highvane_score_row, frame");
+        overlapping(design, setting, weights_len, weights_len > 0 && place == AT_END, place);
+    }
 }

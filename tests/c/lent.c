@@ -1,23 +1,23 @@
-#define _DEFAULT_SOURCE /* for MAP_ANONYMOUS */
+#define _DEFAULT_SOURCE /* for MAP_ANONYMOUS and MAP_NORESERVE */
 #include "lent.h"
 
-#include <stdio.h>
-#include <stdlib.h>
 #include <string.h>
 #include <sys/mman.h>
 #include <unistd.h>
 
 enum { PATTERN = 0xA5 };
 
+void *untouchable(size_t size) {
+    void *start = mmap(NULL, size, PROT_NONE, MAP_PRIVATE | MAP_ANONYMOUS | MAP_NORESERVE, -1, 0);
+    return had(start == MAP_FAILED ? NULL : start, "address space");
+}
+
 lent lent_pages(size_t most) {
     size_t page = (size_t)sysconf(_SC_PAGESIZE);
     size_t total = (most + page - 1) / page * page + page;
-    unsigned char *pages = mmap(NULL, total + 2 * page, PROT_NONE, MAP_PRIVATE | MAP_ANONYMOUS, -1, 0);
-    if (pages == MAP_FAILED || mprotect(pages + page, total, PROT_READ | PROT_WRITE) != 0) {
-        perror("pages to lend from");
-        exit(1);
-    }
-    return (lent){pages + page, total, NULL, 0};
+    unsigned char *pages = (unsigned char *)untouchable(total + 2 * page) + page;
+    had(mprotect(pages, total, PROT_READ | PROT_WRITE) == 0 ? pages : NULL, "pages to lend from");
+    return (lent){pages, total, NULL, 0};
 }
 
 void *lend(lent *memory, const void *content, size_t size, enum place place) {
@@ -31,24 +31,14 @@ void *lend(lent *memory, const void *content, size_t size, enum place place) {
     return memory->data;
 }
 
-static int all_pattern(const unsigned char *from, const unsigned char *to) {
-    /* Where the first byte is right and each byte is like the next, all are right. */
-    return from == to || (*from == PATTERN && memcmp(from, from + 1, (size_t)(to - from) - 1) == 0);
-}
-
-int lent_holds(const lent *memory, const void *content) {
-    const unsigned char *end = memory->pages + memory->total;
-    if (all_pattern(memory->pages, memory->data) && all_pattern(memory->data + memory->size, end)
-        && (memory->size == 0 || memcmp(memory->data, content, memory->size) == 0))
-        return 1;
-    for (const unsigned char *byte = memory->pages; byte < end; byte++) {
-        ptrdiff_t at = byte - memory->data;
-        int within = at >= 0 && (size_t)at < memory->size;
-        int meant = within ? ((const unsigned char *)content)[at] : PATTERN;
-        if (*byte != meant) {
-            printf("byte %td of a lent block of %zu bytes: %d, not %d\n", at, memory->size, *byte, meant);
+void compare_lent(const lent *memory, const void *content, const char *what) {
+    const unsigned char *end = memory->pages + memory->total, *byte = memory->pages, *held = content;
+    size_t before = (size_t)(memory->data - memory->pages), at = 0;
+    int due = PATTERN;
+    for (; byte < end; byte++, at++) {
+        due = at >= before && at - before < memory->size ? held[at - before] : PATTERN;
+        if (*byte != due)
             break;
-        }
     }
-    return 0;
+    compare(byte == end, "%s: byte %td of %zu is %d, not %d", what, byte - memory->data, memory->size, byte == end ? 0 : *byte, due);
 }

@@ -7,8 +7,9 @@
 #ifndef LENT_H
 #define LENT_H
 
-#include <stddef.h>
+#include "checks.h"
 
+/* At the end of a page, numbers are aligned for their type and often for nothing larger. */
 enum place { AT_START, AT_END, PLACES };
 
 typedef struct {
@@ -24,7 +25,10 @@ lent lent_pages(size_t most);
 /* Lends a copy of `size` bytes at the start or at the end of the pages. Of 0 bytes, it lends NULL or the page that traps. */
 void *lend(lent *memory, const void *content, size_t size, enum place place);
 
-/* Whether what is lent holds `content`, and all around it still holds the pattern. If not, prints the first byte that differs. */
-int lent_holds(const lent *memory, const void *content);
+/* Compares what is lent with `content`, and all around it with the pattern. */
+void compare_lent(const lent *memory, const void *content, const char *what);
+
+/* Address space that nobody may touch, for lengths that no store of the test's own could have. */
+void *untouchable(size_t size);
 
 #endif

@@ -4,9 +4,9 @@ use libc::STDIN_FILENO;
 use libc::STDOUT_FILENO;
 
 fn main() {
-    let mut input = [0u8; records::LONGEST + 1];
+    let mut input = [0u8; transcripts::INPUT_MAX + 1];
     let n = io::read_full(STDIN_FILENO, &mut input);
-    let mut out = [0u8; records::PLACES];
-    let k = records::transcript(&input[..n], &mut out);
+    let mut out = [0u8; transcripts::TRANSCRIPT_MAX];
+    let k = transcripts::transcript(&input[..n], &mut out);
     io::write_all(STDOUT_FILENO, &out[..k]);
 }

@@ -23,13 +23,13 @@ pub record CodeTable (xs : List ℕ) : Type 0 where
   pub long : length xs ≡ 256
   pub coded : T (every isCode 0 xs)
 
--- Two codes are added. The sum is below 16 × 128, so Q is at most 15.
+-- The sum of the codes of a and b. It is below 16 × 128, so Q is at most 15.
 pub record CodeSum (a b r : ℕ) : Type 0 where
   pub is : r ≡ code 7 a + code 7 b
   pub small : r < 2048
 
--- With quotient Q and rest R on division by 128 the product is (128 + R) × 2^Q / 128, which is whole, or 0 where a byte is 0.
--- The product equals design 1 at width 8 for all pairs.
+-- The product by the table: where the codes' sum is 128 × Q + R with R < 128, it is (128 + R) × 2^Q / 128, a division that leaves
+-- nothing; or 0 where a byte is 0. It is what design 1 gives for the two bytes.
 pub record TableProduct (a b r : ℕ) : Type 0 where
   pub is : r ≡ byCodes 7 a b
   pub whole : scaledProduct 7 (code 7 a + code 7 b) % 128 ≡ 0

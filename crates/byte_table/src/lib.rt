@@ -5,7 +5,7 @@ ghost use Prim.Native.Nat.{_/_, _<_};
 ghost use Rattle.designs.specs.Codes.{scaledProduct};
 ghost use Rattle.byte_table.specs.Table.{CodeTable, CodeSum, TableProduct};
 
-// The code of v ≥ 1, with v = 2^k + a, is 128 × k + a × 2^(7−k). Entry 0 holds 0 and is never used in a sum.
+// At the place v ≥ 1, with v = 2^k + a, stands its code 128 × k + a × 2^(7−k). The 0 at place 0 is read by no sum.
 const CODES: [u16; 256] = [
     0,
     0,

@@ -3,13 +3,11 @@ use Prim.Native.Nat.{ℕ}
 use lib.IntN.{ℤ, pos}
 use lib.Ieee.{binary32, ofBits}
 use Rattle.designs.specs.Outcomes.{Outcome, accepted, refused}
-use Rattle.designs.specs.Rows.{Report}
-use Rattle.scores.specs.Quotient.{plusZero}
-use Rattle.scores.specs.declared.Quotients.{Quotients}
+use Rattle.scaling.specs.Quotient.{plusZero}
+use Rattle.scaling.specs.declared.Quotients.{Quotients}
 use Rattle.capi.specs.declared.UnsignedProduct.{UnsignedProduct}
 use Rattle.capi.specs.declared.SignedProduct.{SignedProduct}
 use Rattle.capi.specs.declared.SingleProduct.{SingleProduct}
-use Rattle.capi.specs.declared.Report.{Report as CReport}
 use Rattle.capi.specs.declared.Scaled.{Scaled as CScaled}
 
 abbrev pub unsignedStruct : Outcome ℕ → UnsignedProduct
@@ -19,19 +17,6 @@ unsignedStruct (refused n) = record { product = 0; refusal = n }
 abbrev pub signedStruct : Outcome ℤ → SignedProduct
 signedStruct (accepted v) = record { product = v; refusal = 0 }
 signedStruct (refused n) = record { product = pos 0; refusal = n }
-
-abbrev pub reportStruct : Outcome Report → CReport
-reportStruct (accepted r) =
-    record {
-      score = r .score;
-      «true_sum» = r .trueSum;
-      error = r .error;
-      «magnitude_sum» = r .magnitudeSum;
-      «nonzero_pairs» = r .nonzeroPairs;
-      refusal = 0;
-    }
-reportStruct (refused n) =
-    record { score = pos 0; «true_sum» = pos 0; error = pos 0; «magnitude_sum» = 0; «nonzero_pairs» = 0; refusal = n }
 
 abbrev pub scaledStruct : Outcome Quotients → CScaled
 scaledStruct (accepted v) = record { score = v .score; «magnitude_sum» = v .«magnitude_sum»; refusal = 0 }

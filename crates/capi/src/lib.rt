@@ -3,13 +3,13 @@
 ghost use mathlib.Core.Path.{_≡_};
 ghost use lib.ListN.{length};
 ghost use Rattle.designs.specs.Products.{unsignedOutcome, signedOutcome};
-ghost use Rattle.designs.specs.Scoring.{rowOutcome, rowWritten};
-ghost use Rattle.scores.specs.Scaling.{scaledOutcome};
+ghost use Rattle.scaling.specs.Scaling.{scaledOutcome};
 ghost use Rattle.stores.specs.Stores.{storeRefusal};
 ghost use Rattle.byte_table.specs.Table.{TableProduct};
-ghost use Rattle.floats.specs.Singles.{singleOutcome};
-ghost use Rattle.records.specs.Lines.{Written};
-ghost use Rattle.capi.specs.Structs.{unsignedStruct, signedStruct, reportStruct, scaledStruct, singleStruct};
+ghost use Rattle.singles.specs.Singles.{singleOutcome};
+ghost use Rattle.transcripts.specs.Transcripts.{Written};
+ghost use Rattle.capi.specs.Rows.{RowStruct};
+ghost use Rattle.capi.specs.Structs.{unsignedStruct, signedStruct, scaledStruct, singleStruct};
 
 #[repr(C)]
 pub struct UnsignedProduct {
@@ -69,13 +69,10 @@ pub extern "C" fn highvane_product_signed(
     }
 }
 
+// The report stands first, as it is, so that its fields are the struct's own.
 #[repr(C)]
-pub struct Report {
-    pub score: i64,
-    pub true_sum: i64,
-    pub error: i64,
-    pub magnitude_sum: u64,
-    pub nonzero_pairs: u64,
+pub struct ScoredRow {
+    pub report: rows::RowReport,
     pub refusal: u32,
 }
 
@@ -86,26 +83,14 @@ pub extern "C" fn highvane_score_row(
     weights: &[i16],
     frame: &[i16],
     residues: &mut [i64],
-) -> Report
-    ensures given { λ r. ⌜ r ≡ reportStruct (rowOutcome design setting (now (weights .entry)) (now (frame .entry)) (now (residues .entry))) ⌝ }
-    ensures written { λ r. ⌜ now (residues .exit) ≡ rowWritten design setting (now (weights .entry)) (now (frame .entry)) (now (residues .entry)) ⌝ }
+) -> ScoredRow
+    ensures { λ r. ⌜ RowStruct design setting (now (weights .entry)) (now (frame .entry)) (now (residues .entry)) (now (residues .exit)) r ⌝ }
 {
     let answer = rows::score_row(design, setting, weights, frame, residues);
     match answer {
-        rows::Scored::Report(report) => Report {
-            score: report.score,
-            true_sum: report.true_sum,
-            error: report.error,
-            magnitude_sum: report.magnitude_sum,
-            nonzero_pairs: report.nonzero_pairs,
-            refusal: 0,
-        },
-        rows::Scored::Refused(refusal) => Report {
-            score: 0,
-            true_sum: 0,
-            error: 0,
-            magnitude_sum: 0,
-            nonzero_pairs: 0,
+        rows::Scored::Report(report) => ScoredRow { report, refusal: 0 },
+        rows::Scored::Refused(refusal) => ScoredRow {
+            report: rows::RowReport::empty(),
             refusal,
         },
     }
@@ -129,14 +114,14 @@ pub struct Scaled {
 pub extern "C" fn highvane_scale(score: i64, magnitude_sum: u64, shift: u32) -> Scaled
     ensures { λ r. ⌜ r ≡ scaledStruct (scaledOutcome score «magnitude_sum» shift) ⌝ }
 {
-    let answer = scores::scale(score, magnitude_sum, shift);
+    let answer = scaling::scale(score, magnitude_sum, shift);
     match answer {
-        scores::Scaled::Values(values) => Scaled {
+        scaling::Scaled::Values(values) => Scaled {
             score: values.score,
             magnitude_sum: values.magnitude_sum,
             refusal: 0,
         },
-        scores::Scaled::Refused(refusal) => Scaled {
+        scaling::Scaled::Refused(refusal) => Scaled {
             score: 0.0,
             magnitude_sum: 0.0,
             refusal,
@@ -154,10 +139,10 @@ pub struct SingleProduct {
 pub extern "C" fn highvane_single_product(a: u32, b: u32) -> SingleProduct
     ensures { λ r. ⌜ r ≡ singleStruct (singleOutcome a b) ⌝ }
 {
-    let answer = floats::single_product(a, b);
+    let answer = singles::single_product(a, b);
     match answer {
-        floats::Single::Value(value) => SingleProduct { value, refusal: 0 },
-        floats::Single::Refused(refusal) => SingleProduct {
+        singles::Single::Value(value) => SingleProduct { value, refusal: 0 },
+        singles::Single::Refused(refusal) => SingleProduct {
             value: 0.0,
             refusal,
         },
@@ -172,8 +157,11 @@ pub extern "C" fn highvane_table_product(a: u8, b: u8) -> u16
 }
 
 #[no_mangle]
-pub extern "C" fn highvane_transcript(input: &[u8], out: &mut [u8; records::PLACES]) -> usize
+pub extern "C" fn highvane_transcript(
+    input: &[u8],
+    out: &mut [u8; transcripts::TRANSCRIPT_MAX],
+) -> usize
     ensures { λ r. ⌜ Written (now (input .entry)) (now (out .entry)) (now (out .exit)) r ⌝ }
 {
-    records::transcript(input, out)
+    transcripts::transcript(input, out)
 }

@@ -1,11 +1,13 @@
 pub mod Cases
+pub mod Refusals
+pub mod Settings
 pub mod Parts
 pub mod Differences
 pub mod Zeros
+pub mod Carried
 pub mod Mitchell
 pub mod Nearest
 pub mod Staged
-pub mod Carried
 pub mod Truncated
 pub mod Widths
 pub mod Squares

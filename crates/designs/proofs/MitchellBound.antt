@@ -9,7 +9,7 @@ use Rattle.designs.specs.Designs.{log2, rest, byMitchell}
 use Rattle.designs.specs.Demand.{ThreeTimesPower}
 use Rattle.designs.proofs.Cases.{by-lt}
 use Rattle.designs.proofs.Distance.{dist, dist-less, Within, within-less}
-use Rattle.designs.proofs.Mitchell.{at, mitchell-at}
+use Rattle.designs.proofs.Mitchell.{at, high-short, low-short, mitchell-at}
 use Rattle.designs.proofs.Parts.{parts, rest-lt}
 use Rattle.designs.proofs.Squares.{low-bound, high-bound, high-equal}
 use Rattle.designs.proofs.Triples.{triple→half, half→triple}
@@ -23,13 +23,6 @@ by-carry R P a Q b ha hb low high =
     by-lt (R P Q) (a * Q + b * P) (P * Q) low
     (subst₂ (λ (x y : ℕ). x * y ≤ a * y + b * x → R x y (2 * (a * y + b * x))) (add-sub-of-le (le-of-lt ha)) (add-sub-of-le (le-of-lt hb))
     (high (P - a) (Q - b) (omega arith) (omega arith)))
-
--- what is short, in either case
-low-short : (P a Q b : ℕ) → P * Q + (a * Q + b * P) + a * b ≡ (P + a) * (Q + b)
-low-short P a Q b = omega arith
-
-high-short : (a c b d : ℕ) → 2 * (a * (b + d) + b * (a + c)) + c * d ≡ (a + c + a) * (b + d + b)
-high-short a c b d = omega arith
 
 pub at-within : (P a Q b : ℕ) → a < P → b < Q → Within 9 ((P + a) * (Q + b)) ((P + a) * (Q + b)) (at P a Q b)
 at-within P a Q b ha hb =

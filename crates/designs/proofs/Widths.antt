@@ -5,7 +5,7 @@ use Prim.Native.Nat.{ℕ, _+_, _*_, _/_, _^_, _≤_, _<_}
 use native.Mathlib.Nat.{mul-le-mul, mul-le-mul-left, mul-le-mul-right, div-lt-iff-lt-mul, mul-pos, le-antisymm, zero-div}
 use native.Mathlib.Omega.{arith}
 use lib.Pow.{pow-add, pow-lt, pow-mono, pow-pos}
-use Rattle.designs.specs.Designs.{Design, mitchell, nearest, staged, truncated, log2, rest, nearPower, byNearest, kept, byTruncation, formula, product}
+use Rattle.designs.specs.Designs.{Design, mitchell, nearest, staged, truncated, log2, rest, nearPower, byNearest, kept, byTruncation, formula, product, KeepsBit}
 use Rattle.designs.proofs.Cases.{by-le, by-lt, either-lt}
 use Rattle.designs.proofs.Parts.{parts, log2-is, log2-below, log2-double}
 use Rattle.designs.proofs.Zeros.{by-zero, product-is}
@@ -62,19 +62,6 @@ product-lt D u v A B ha hb =
 
 -- Signed operands of v + 1 bits have sizes up to 2^v, which has v + 1 bits itself. Their product still has at most 2v + 1 bits:
 -- where one size is below 2^v by the law above, and where both are 2^v because the designs are all but exact there.
-
--- a claim on the kept bits of design 4: that it keeps at least one, and at most n
-abbrev pub Keeps : (ℕ → Type 0) → Design → Type 0
-Keeps Q mitchell = Unit {0}
-Keeps Q nearest = Unit {0}
-Keeps Q (staged s) = Unit {0}
-Keeps Q (truncated t) = Q t
-
-abbrev pub KeepsBit : Design → Type 0
-KeepsBit D = Keeps (λ t. 0 < t) D
-
-abbrev pub KeepsAtMost : ℕ → Design → Type 0
-KeepsAtMost n D = Keeps (λ t. t ≤ n) D
 
 module _ (v : ℕ) where
   power-log2 : log2 (2 ^ v) ≡ v

@@ -1,4 +1,4 @@
--- The third demand: one claim on the report of a whole row, for every design and setting at once. Definitions only.
+-- The third demand: a claim on a row's report as a whole, for every design and setting at once. Definitions only.
 -- e is the size of the error, T the report's sum of magnitudes, n its count of pairs without a zero.
 use mathlib.Core.Path.{_≡_}
 use mathlib.Core.Logic.{_↔_}
@@ -8,7 +8,7 @@ use lib.IntN.{ℤ, natAbs, _-ℤ_}
 use Rattle.designs.specs.Designs.{Design, mitchell, nearest, staged, truncated}
 use Rattle.designs.specs.Rows.{Report}
 
--- Three times a power of two is 3 × 2^j with j from 0.
+-- n is 3 × 2^j, with a j of 0 or more.
 unfoldable pub ThreeTimesPower : ℕ → Type 0
 ThreeTimesPower n = (j : ℕ) × (n ≡ 3 * 2 ^ j)
 

@@ -4,10 +4,10 @@ use mathlib.Core.List.{List, [], _∷_, map}
 use Prim.Native.Nat.{ℕ}
 use lib.IntN.{ℤ, pos, negℤ}
 use Rattle.designs.specs.Signs.{residue}
-use Rattle.designs.specs.Outcomes.{Outcome, accepted, refused}
+use Rattle.designs.specs.Outcomes.{Outcome, accepted, refused, first}
 use Rattle.designs.specs.Products.{unsignedOutcome, signedOutcome, designOf}
-use Rattle.designs.specs.Rows.{Report, report, residues}
-use Rattle.designs.specs.Scoring.{rowOutcome, rowWritten}
+use Rattle.designs.specs.Rows.{Report, emptyReport, report, residues}
+use Rattle.designs.specs.Scoring.{rowRefusals, rowOutcome, rowWritten}
 
 -- What a figure asks, with the design, setting and width as the table has them: an unsigned product, a signed one, or a row.
 pub data Question : Type 0 where
@@ -56,7 +56,29 @@ pub figures-hold : map (λ f. meaning (f .0)) figures ≡ map (λ f. f .1) figur
 unfolding meaning figures
 figures-hold = refl
 
--- The sentences below the table, and the order of the refusals where several apply: an outcome, and what it should be.
+-- The sentences below the table, each limit from both sides, and the order of the refusals where several apply: an outcome, and what
+-- it should be. First unsigned, then signed.
+pub unsignedJudged : List (Outcome ℕ × Outcome ℕ)
+unfolding unsignedOutcome
+unsignedJudged =
+    (unsignedOutcome 1 8 0 255 255, accepted 65024)
+    ∷ (unsignedOutcome 1 8 0 256 255, refused 4)
+    ∷ (unsignedOutcome 1 8 0 255 256, refused 4)
+    ∷ (unsignedOutcome 1 16 0 65535 65535, accepted 4294836224)
+    ∷ (unsignedOutcome 1 16 0 65535 65536, refused 4)
+    ∷ (unsignedOutcome 2 32 0 4294967295 4294967295, accepted 18446744065119617024)
+    ∷ (unsignedOutcome 2 32 0 4294967296 1, refused 4)
+    ∷ (unsignedOutcome 0 8 0 3 3, refused 1)
+    ∷ (unsignedOutcome 5 8 0 3 3, refused 1)
+    ∷ (unsignedOutcome 1 15 0 3 3, refused 2)
+    ∷ (unsignedOutcome 1 17 0 3 3, refused 2)
+    ∷ (unsignedOutcome 1 64 0 3 3, refused 2)
+    ∷ []
+
+pub unsignedJudged-hold : map (λ j. j .0) unsignedJudged ≡ map (λ j. j .1) unsignedJudged
+unfolding unsignedJudged
+unsignedJudged-hold = refl
+
 pub judged : List (Outcome ℤ × Outcome ℤ)
 unfolding signedOutcome
 judged =
@@ -66,7 +88,10 @@ judged =
     ∷ (signedOutcome 4 8 7 (pos 16) (pos 16), accepted (pos 258))
     ∷ (signedOutcome 4 8 8 (pos 16) (pos 16), refused 3)
     ∷ (signedOutcome 1 8 0 (− 128) (pos 1), accepted (− 128))
+    ∷ (signedOutcome 1 8 0 (pos 1) (− 128), accepted (− 128))
     ∷ (signedOutcome 1 8 0 (pos 128) (pos 1), refused 4)
+    ∷ (signedOutcome 1 8 0 (pos 1) (pos 128), refused 4)
+    ∷ (signedOutcome 1 8 0 (pos 1) (− 129), refused 4)
     ∷ (signedOutcome 1 8 1 (pos 128) (pos 1), refused 3)
     ∷ (signedOutcome 1 7 1 (pos 128) (pos 1), refused 2)
     ∷ (signedOutcome 5 7 1 (pos 128) (pos 1), refused 1)
@@ -75,6 +100,26 @@ judged =
 pub judged-hold : map (λ j. j .0) judged ≡ map (λ j. j .1) judged
 unfolding judged
 judged-hold = refl
+
+-- The refusal of a row, of a design, a setting and the lengths of weights, frame and places, and what it should be.
+pub lengthsJudged : List (ℕ × ℕ)
+unfolding first rowRefusals
+lengthsJudged =
+    (first (rowRefusals 1 0 4096 4096 4096), 0)
+    ∷ (first (rowRefusals 1 0 4096 4096 4095), 7)
+    ∷ (first (rowRefusals 1 0 4097 4097 0), 6)
+    ∷ (first (rowRefusals 1 0 4097 4096 0), 5)
+    ∷ (first (rowRefusals 1 1 4097 4096 0), 3)
+    ∷ (first (rowRefusals 0 1 4097 4096 0), 1)
+    ∷ (first (rowRefusals 3 16 0 0 0), 0)
+    ∷ (first (rowRefusals 3 17 0 0 0), 3)
+    ∷ (first (rowRefusals 4 15 0 0 0), 0)
+    ∷ (first (rowRefusals 4 16 0 0 0), 3)
+    ∷ []
+
+pub lengthsJudged-hold : map (λ j. j .0) lengthsJudged ≡ map (λ j. j .1) lengthsJudged
+unfolding lengthsJudged
+lengthsJudged-hold = refl
 
 -- Rows that are scored or refused into five places: the outcome and what the places then hold, and what both should be.
 abbrev places : List ℤ
@@ -89,6 +134,7 @@ rows =
     (into 1 0 (pos 3 ∷ − 5 ∷ pos 0 ∷ []) (pos 3 ∷ pos 6 ∷ pos 7 ∷ []) places, (accepted starredRow, pos 1 ∷ − 2 ∷ pos 0 ∷ pos 94 ∷ pos 95 ∷ []))
     ∷ (into 1 0 (pos 3 ∷ − 5 ∷ pos 0 ∷ []) (pos 3 ∷ pos 6 ∷ []) places, (refused 5, places))
     ∷ (into 1 0 (pos 3 ∷ − 5 ∷ []) (pos 3 ∷ pos 6 ∷ []) (pos 91 ∷ []), (refused 7, pos 91 ∷ []))
+    ∷ (into 2 0 [] [] places, (accepted emptyReport, places))
     ∷ (into 1 1 (pos 3 ∷ []) [] places, (refused 3, places))
     ∷ (into 5 99 (pos 3 ∷ []) [] places, (refused 1, places))
     ∷ []

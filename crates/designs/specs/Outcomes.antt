@@ -22,7 +22,11 @@ unfoldable pub first : List Refusal → ℕ
 first [] = 0
 first (r ∷ rs) = cond (r .applies) (r .number) (first rs)
 
+-- The outcome o unless a refusal applies.
+abbrev pub otherwise : {X : Type 0} → ℕ → Outcome X → Outcome X
+otherwise zero o = o
+otherwise (suc n) o = refused (suc n)
+
 -- The value v unless a refusal applies.
 abbrev pub unlessRefused : {X : Type 0} → ℕ → X → Outcome X
-unlessRefused zero v = accepted v
-unlessRefused (suc n) v = refused (suc n)
+unlessRefused n v = otherwise n (accepted v)

@@ -1,7 +1,7 @@
 -- What a product gives for any input (document 01, "Setting" and "Product, unsigned or signed"). Definitions only.
 use Prim.Native.Nat.{ℕ, suc, _-_, _^_}
 use mathlib.Core.Bool.{Bool, not, _&&_, _||_, cond}
-use mathlib.Core.List.{List, [], _∷_}
+use mathlib.Core.List.{List, [], _∷_, _++_}
 use lib.Dec.{leb, eqb}
 use lib.IntN.{ℤ, pos, negsuc}
 use Rattle.designs.specs.Designs.{Design, mitchell, nearest, staged, truncated, product}
@@ -20,19 +20,34 @@ isWidth w = eqb w 8 || (eqb w 16 || eqb w 32)
 abbrev pub designOf : ℕ → ℕ → Design
 designOf n setting = cond (eqb n 1) mitchell (cond (eqb n 2) nearest (cond (eqb n 3) (staged setting) (truncated setting)))
 
--- Designs 1 and 2 take setting 0 only. Design 3 takes the stages, 1 to w. Design 4 takes t, 1 to w − 1.
+-- Whether design n takes a setting at width w: 0 for designs 1 and 2, from 1 to w stages for design 3, from 1 to w − 1 kept bits for
+-- design 4.
 abbrev pub takesSetting : ℕ → ℕ → ℕ → Bool
 takesSetting n w setting = cond (leb n 2) (eqb setting 0) (leb 1 setting && leb setting (cond (eqb n 3) w (w - 1)))
 
--- 1 if the design is not 1 to 4; 2 if the width is not 8, 16 or 32; 3 if the setting is not one listed;
--- 4 if an operand is outside the width.
+-- The refusals of a product, each a number and what it stands for.
+abbrev pub unknownDesign : ℕ → Refusal
+unknownDesign design = 1 when not (isDesign design)
+
+abbrev pub unknownWidth : ℕ → Refusal
+unknownWidth width = 2 when not (isWidth width)
+
+abbrev pub settingOutOfRange : ℕ → ℕ → ℕ → Refusal
+settingOutOfRange design width setting = 3 when not (takesSetting design width setting)
+
+abbrev pub operandOutsideWidth : Bool → Bool → Refusal
+operandOutsideWidth a-inside b-inside = 4 when not (a-inside && b-inside)
+
+-- In order: those of the numbers beside the operands, and those of the operands, of which is known whether each is inside the width.
+unfoldable pub settingRefusals : ℕ → ℕ → ℕ → List Refusal
+settingRefusals design width setting = unknownDesign design ∷ unknownWidth width ∷ settingOutOfRange design width setting ∷ []
+
+unfoldable pub operandRefusals : Bool → Bool → List Refusal
+operandRefusals a-inside b-inside = operandOutsideWidth a-inside b-inside ∷ []
+
 unfoldable pub refusals : ℕ → ℕ → ℕ → Bool → Bool → List Refusal
-refusals design width setting a-inside b-inside =
-    1 when not (isDesign design)
-    ∷ 2 when not (isWidth width)
-    ∷ 3 when not (takesSetting design width setting)
-    ∷ 4 when not (a-inside && b-inside)
-    ∷ []
+unfolding settingRefusals operandRefusals
+refusals design width setting a-inside b-inside = settingRefusals design width setting ++ operandRefusals a-inside b-inside
 
 -- Inside the width: 0 to 2^w − 1, or −2^(w−1) to 2^(w−1) − 1.
 abbrev pub insideUnsigned : ℕ → ℕ → Bool

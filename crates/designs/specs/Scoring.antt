@@ -6,19 +6,34 @@ use lib.Dec.{ltb, eqb}
 use lib.IntN.{ℤ}
 use lib.ListN.{length, drop}
 use Rattle.designs.specs.Outcomes.{Outcome, Refusal, _when_, first, unlessRefused}
-use Rattle.designs.specs.Products.{isDesign, designOf, takesSetting}
+use Rattle.designs.specs.Products.{designOf, unknownDesign, settingOutOfRange}
 use Rattle.designs.specs.Rows.{Report, report, residues}
 
--- 1 and 3 as for a product, at width 16; 5 if the slices differ in length; 6 if there are more than 4,096 pairs;
--- 7 if the residue slice is shorter than the row.
+-- The width at which a row is scored.
+abbrev pub rowWidth : ℕ
+rowWidth = 16
+
+-- The refusals of a row by the lengths of its slices.
+abbrev pub lengthsDiffer : ℕ → ℕ → Refusal
+lengthsDiffer weights frame = 5 when not (eqb weights frame)
+
+abbrev pub tooManyPairs : ℕ → Refusal
+tooManyPairs weights = 6 when ltb 4096 weights
+
+abbrev pub residuesTooShort : ℕ → ℕ → Refusal
+residuesTooShort places weights = 7 when ltb places weights
+
+-- In order: those of the design and its setting, those of the pairs, and that of the places for the residues.
+unfoldable pub designRefusals : ℕ → ℕ → List Refusal
+designRefusals design setting = unknownDesign design ∷ settingOutOfRange design rowWidth setting ∷ []
+
+unfoldable pub pairRefusals : ℕ → ℕ → List Refusal
+pairRefusals weights frame = lengthsDiffer weights frame ∷ tooManyPairs weights ∷ []
+
 unfoldable pub rowRefusals : ℕ → ℕ → ℕ → ℕ → ℕ → List Refusal
+unfolding designRefusals pairRefusals
 rowRefusals design setting weights frame places =
-    1 when not (isDesign design)
-    ∷ 3 when not (takesSetting design 16 setting)
-    ∷ 5 when not (eqb weights frame)
-    ∷ 6 when ltb 4096 weights
-    ∷ 7 when ltb places weights
-    ∷ []
+    designRefusals design setting ++ (pairRefusals weights frame ++ (residuesTooShort places weights ∷ []))
 
 -- `new` in the first places and what stood in the later ones, unless a refusal applies.
 abbrev pub writtenUnless : ℕ → List ℤ → List ℤ → List ℤ
@@ -35,7 +50,8 @@ module _ (design setting : ℕ) (ws fs before : List ℤ) where
   unfolding rowRefusal report
   rowOutcome = unlessRefused rowRefusal (report (designOf design setting) ws fs)
 
-  -- The residue of pair i goes to place i; later places keep their contents. A refusal alters no place.
+  -- What the residue slice holds after the call: pair i's residue at place i, and after them what stood there; or, where the row is
+  -- refused, what it held before.
   unfoldable pub rowWritten : List ℤ
   unfolding rowRefusal residues
   rowWritten = writtenUnless rowRefusal (residues (designOf design setting) ws fs) before

@@ -1,6 +1,6 @@
 pub mod Powers
-pub mod Carry
-pub mod Wrapping
-pub mod Stages
-pub mod Truncation
+pub mod MitchellSteps
+pub mod NearestSteps
+pub mod StagedSteps
+pub mod TruncatedSteps
 pub mod Served

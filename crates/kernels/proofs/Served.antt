@@ -1,8 +1,7 @@
 -- The kernels compute the design itself where it keeps at most 31 bits. Assumes nothing.
 use mathlib.Core.Path.{_≡_, refl, ap}
 use native.Mathlib.Nat.{min-eq-left}
-use Rattle.designs.specs.Designs.{Design, mitchell, nearest, staged, truncated}
-use Rattle.designs.proofs.Widths.{KeepsAtMost}
+use Rattle.designs.specs.Designs.{Design, KeepsAtMost, mitchell, nearest, staged, truncated}
 use Rattle.kernels.specs.Steps.{served}
 
 pub serves : (D : Design) → KeepsAtMost 31 D → served D ≡ D

@@ -1,9 +1,8 @@
-// The four designs on magnitudes of up to 32 bits, whatever the width of the operands they come from. Every input is taken, so
-// nothing is refused here. The kernels shift and add; none multiplies.
+// The four designs as total functions on magnitudes of up to 32 bits, whatever the width of the operands they come from. They are no
+// operations of document 01: they judge nothing and refuse nothing. They shift and add; none multiplies.
 ghost use mathlib.Core.Path.{_≡_};
 ghost use Prim.Native.Nat.{min, max, _<_};
 ghost use Rattle.designs.specs.Designs.{product, mitchell, nearest, staged, truncated};
-ghost use Rattle.designs.specs.Products.{designOf};
 ghost use Rattle.kernels.specs.Steps.{served, NearPower};
 
 mod bits;
@@ -121,20 +120,4 @@ fn at_most_31(t: u32) -> u32
         return t;
     }
     31
-}
-
-// The product of design 1 to 4 with a setting; design 4 keeps at most 31 bits.
-pub fn product_of(design: u32, setting: u32, a: u32, b: u32) -> u64
-    ensures { λ r. ⌜ r ≡ product (served (designOf design setting)) a b ⌝ }
-{
-    if design == 1 {
-        return mitchell(a, b);
-    }
-    if design == 2 {
-        return nearest(a, b);
-    }
-    if design == 3 {
-        return staged(setting, a, b);
-    }
-    truncated(setting, a, b)
 }

@@ -1,3 +1,4 @@
-pub mod Turns
-pub mod Lengths
-pub mod Limit
+pub mod TwosComplement
+pub mod EveryKind
+pub mod Framing
+pub mod Sequence

@@ -1,2 +1,6 @@
-pub mod Lines
-pub mod Sample
+pub mod Fields
+pub mod Kinds
+pub mod Frames
+pub mod Records
+pub mod Answers
+pub mod Figures

@@ -1,58 +1,89 @@
-// The transcript of an input of the bench program (document 01, "The bench program's records" and "Reading records"): a line for each
-// record, and the total. Any bytes are taken.
-ghost use lib.ListN.{length};
-ghost use Rattle.text.specs.Text.{Room, Put};
-ghost use Rattle.readings.specs.Records.{recordsOf};
-ghost use Rattle.records.specs.Lines.{printed, tooLongText, Written};
+// The first record of the bench's input, framed and evaluated (document 01, "Reading records"). Any bytes and any place are accepted.
+ghost use mathlib.Core.Path.{_≡_};
+ghost use Rattle.records.specs.Frames.{frame};
+ghost use Rattle.records.specs.Records.{recordOf, nextAt};
+ghost use Rattle.records.specs.Answers.{frameGiven, entryGiven, readingGiven};
 
-mod lines;
-mod writers;
+mod fields;
+mod kinds;
 
-pub use readings::Answer;
-pub use readings::Entry;
-pub use readings::Reading;
-pub use readings::read_record;
+// The result of a record's operation, or the number of the refusal, as for a signed product.
+pub type Answer = products::Signed;
 
-// The most bytes that are read, and the places that hold the transcript of any input.
-pub const LONGEST: usize = 65536;
-
-pub const PLACES: usize = 245760;
-
-// Writes the transcript of an input at the start of a buffer that has room for any, and gives its length.
-pub fn transcript(input: &[u8], out: &mut [u8; PLACES]) -> usize
-    ensures { λ r. ⌜ Written (now (input .entry)) (now (out .entry)) (now (out .exit)) r ⌝ }
-{
-    if LONGEST < input.len() {
-        put_too_long(out)
-    } else {
-        put_records(input, out)
-    }
+// Which bytes are a record, before anything is computed: its kind, the refusal of the reading or 0, and how many bytes it takes.
+// One that the reading refuses takes all that is left.
+pub struct Frame {
+    pub kind: u8,
+    pub refusal: u32,
+    pub used: usize,
 }
 
-// What is printed of an input that is too long.
-fn put_too_long(out: &mut [u8]) -> usize
-    requires { ⌜ Room (now out) 0 tooLongText ⌝ }
-    ensures { λ r. ⌜ Put (now (out .entry)) 0 tooLongText (now (out .exit)) r ⌝ }
-{
-    writers::put_bytes(out, 0, b"0 no 19\ntotal 0 1\n")
+// A record that was read: its kind, its answer, and how many bytes it takes.
+pub struct Entry {
+    pub kind: u8,
+    pub answer: Answer,
+    pub used: usize,
 }
 
-// The lines of all records, and the total.
-fn put_records(s: &[u8], out: &mut [u8]) -> usize
-    requires { ⌜ Room (now out) 0 (printed (recordsOf (length (now s)) (now s))) ⌝ }
-    ensures { λ r. ⌜ Put (now (out .entry)) 0 (printed (recordsOf (length (now (s .entry))) (now (s .entry)))) (now (out .exit)) r ⌝ }
+// What stands at a place: a record, or nothing where the input has ended.
+pub enum Reading {
+    Found(Entry),
+    End,
+}
+
+// The record at a place of an input.
+pub fn read_record(input: &[u8], at: usize) -> Reading
+    ensures { λ r. ⌜ readingGiven r ≡ nextAt (now (input .entry)) at ⌝ }
 {
-    let mut at = 0;
-    let mut place = 0;
-    let mut accepted: u64 = 0;
-    let mut refused: u64 = 0;
-    while at < s.len() {
-        let entry = readings::first_record(&s[at..]);
-        place = lines::put_line(out, place, entry);
-        at += entry.used;
-        let answer = entry.answer;
-        accepted += lines::count_accepted(answer);
-        refused += lines::count_refused(answer);
+    if at < input.len() {
+        let entry = first_record(&input[at..]);
+        return Reading::Found(entry);
     }
-    lines::put_total(out, place, accepted, refused)
+    Reading::End
+}
+
+// The first record of an input, evaluated.
+pub fn first_record(s: &[u8]) -> Entry
+    ensures { λ r. ⌜ entryGiven r ≡ recordOf (now (s .entry)) ⌝ }
+{
+    let framed = first_frame(s);
+    let kind = framed.kind;
+    let refusal = framed.refusal;
+    let used = framed.used;
+    if refusal != 0 {
+        return Entry {
+            kind,
+            answer: Answer::Refused(refusal),
+            used,
+        };
+    }
+    let answer = kinds::answer_of(kind, &s[1..used]);
+    Entry { kind, answer, used }
+}
+
+// The frame of an input's first record. An input that has ended frames as a record of the unknown kind 0 that takes nothing.
+pub fn first_frame(s: &[u8]) -> Frame
+    ensures { λ r. ⌜ frameGiven r ≡ frame (now (s .entry)) ⌝ }
+{
+    let kind = fields::first_byte(s);
+    let body = kinds::body_length(kind);
+    if body == 0 {
+        return Frame {
+            kind,
+            refusal: refusals::UNKNOWN_KIND,
+            used: s.len(),
+        };
+    }
+    if s.len() <= body {
+        return Frame {
+            kind,
+            refusal: refusals::CUT_SHORT,
+            used: s.len(),
+        };
+    }
+    Frame {
+        kind,
+        refusal: 0,
+        used: 1 + body,
+    }
 }

@@ -1,3 +1,3 @@
 pub mod Pair
 pub mod SoFar
-pub mod Judged
+pub mod RowOutcome

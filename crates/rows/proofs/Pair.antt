@@ -9,12 +9,12 @@ use lib.Ieee.{unlike}
 use lib.IntN.{ℤ, pos, negℤ, natAbs, _+ℤ_, _-ℤ_, _*ℤ_, negℤ-negℤ}
 use mir.Syntax.{w16}
 use mir.Val.{SFits}
-use Rattle.designs.specs.Designs.{Design, unlessZero, product}
+use Rattle.designs.specs.Designs.{Design, KeepsBit, unlessZero, product}
 use Rattle.designs.specs.Signs.{negative, withSign, signedProduct, residue}
 use Rattle.designs.specs.Rows.{nonzero}
 use Rattle.designs.proofs.Distance.{dist, within-dist}
 use Rattle.designs.proofs.Sizes.{sign-dist, size-sign, size-true, true-is}
-use Rattle.designs.proofs.Widths.{KeepsBit, size-lt}
+use Rattle.designs.proofs.Widths.{size-lt}
 use Rattle.designs.proofs.Zeros.{zero-product}
 use Rattle.signs.proofs.Integers.{size16}
 

@@ -3,7 +3,6 @@
 use mathlib.Core.Path.{_≡_, refl, sym, ap, ap₂, _∙_}
 use Prim.Native.Nat.{ℕ, _+_, _*_, _^_, _≤_, _<_}
 use native.Mathlib.Nat.{le-antisymm}
-use native.Mathlib.Numerals.{add-one}
 use native.Mathlib.Omega.{arith}
 use mathlib.Core.Bool.{true, false, false≢true}
 use mathlib.Core.List.{List, _++_}
@@ -13,7 +12,7 @@ use lib.Seq.{take-all}
 use Rattle.designs.specs.Designs.{Design}
 use Rattle.designs.specs.Signs.{negative, signedProduct, residue}
 use Rattle.designs.specs.Rows.{Report, report, residues, pairwise, sumℤ, sum, nonzero}
-use Rattle.designs.proofs.Prefixes.{pairwise-length, pairwise-more, sumℤ-more, sum-more, written-more}
+use Rattle.designs.proofs.Prefixes.{sumℤ-next, sum-next, written-next}
 use Rattle.designs.proofs.Sizes.{cross, size-add, size-neg}
 use Rattle.rows.proofs.Pair.{Bounds, most}
 
@@ -94,50 +93,36 @@ module _ (D : Design) (ws fs before after : List ℤ) (i : ℕ) (trueSum minus e
   g : i < length fs
   g = omega arith
 
-  -- a sum over the first i + 1 pairs
-  moreℤ : (q : ℤ → ℤ → ℤ) → sumℤ (pairwise q (take (i + 1) ws) (take (i + 1) fs)) ≡ sumℤ (pairwise q (take i ws) (take i fs)) +ℤ q w x
-  moreℤ q = rw (add-one i, pairwise-more q i ws fs (pos 0) h g) (sumℤ-more (pairwise q (take i ws) (take i fs)) _)
-
-  more : (q : ℤ → ℤ → ℕ) → sum (pairwise q (take (i + 1) ws) (take (i + 1) fs)) ≡ sum (pairwise q (take i ws) (take i fs)) + q w x
-  more q = rw (add-one i, pairwise-more q i ws fs (pos 0) h g) (sum-more (pairwise q (take i ws) (take i fs)) _)
-
-  written-next : set after i (residue D w x) ≡ residues D (take (i + 1) ws) (take (i + 1) fs) ++ drop (i + 1) before
-  unfolding residues
-  written-next =
-      rw (so-far .written, add-one i, pairwise-more (residue D) i ws fs (pos 0) h g)
-      (written-more (pairwise (residue D) (take i ws) (take i fs)) before i (residue D w x)
-      (pairwise-length (residue D) i ws fs (omega arith) (omega arith)) (omega arith))
-
   magnitude-next : ((trueSum +ℤ w *ℤ x) -ℤ (minus +ℤ below (w *ℤ x))) -ℤ (minus +ℤ below (w *ℤ x)) ≡ pos (part D ws fs (i + 1) .magnitudeSum)
   unfolding report
   magnitude-next =
       let t = w *ℤ x in
       ap (λ (z : ℤ). z -ℤ (minus +ℤ below t)) (cross trueSum t minus (below t)) ∙ cross (trueSum -ℤ minus) (t -ℤ below t) minus (below t)
-      ∙ ap₂ _+ℤ_ (so-far .magnitude-is) (turned t) ∙ ap pos (sym (more (λ w x. natAbs (w *ℤ x))))
+      ∙ ap₂ _+ℤ_ (so-far .magnitude-is) (turned t) ∙ ap pos (sym (sum-next ws fs i h g (λ w x. natAbs (w *ℤ x))))
 
   error-next : error +ℤ residue D w x ≡ part D ws fs (i + 1) .error
   unfolding report residue
   error-next =
       ap (λ (z : ℤ). z +ℤ residue D w x) (so-far .error-is)
       ∙ sym (cross (part D ws fs i .trueSum) (w *ℤ x) (part D ws fs i .score) (signedProduct D w x))
-      ∙ ap₂ _-ℤ_ (sym (moreℤ _*ℤ_)) (sym (moreℤ (signedProduct D)))
+      ∙ ap₂ _-ℤ_ (sym (sumℤ-next ws fs i h g _*ℤ_)) (sym (sumℤ-next ws fs i h g (signedProduct D)))
 
   pub next : SoFar D ws fs before (set after i (residue D w x)) (i + 1) (trueSum +ℤ w *ℤ x) (minus +ℤ below (w *ℤ x)) (error +ℤ residue D w x) (n + nonzero w x)
-  unfolding report
+  unfolding report residues
   next =
       record {
         within = omega arith;
-        true-is = ap (λ (z : ℤ). z +ℤ w *ℤ x) (so-far .true-is) ∙ sym (moreℤ _*ℤ_);
+        true-is = ap (λ (z : ℤ). z +ℤ w *ℤ x) (so-far .true-is) ∙ sym (sumℤ-next ws fs i h g _*ℤ_);
         magnitude-is = magnitude-next;
         error-is = error-next;
-        pairs-is = ap (λ (k : ℕ). k + nonzero w x) (so-far .pairs-is) ∙ sym (more nonzero);
-        written = written-next;
+        pairs-is = ap (λ (k : ℕ). k + nonzero w x) (so-far .pairs-is) ∙ sym (sum-next ws fs i h g nonzero);
+        written = rw (so-far .written) (written-next ws fs i h g (residue D) before (omega arith));
         same = simp length-set (so-far .same);
-        score-size = omega (arith, ap natAbs (moreℤ (signedProduct D)), size-add (part D ws fs i .score) (signedProduct D w x), so-far .score-size, small .product-size);
+        score-size = omega (arith, ap natAbs (sumℤ-next ws fs i h g (signedProduct D)), size-add (part D ws fs i .score) (signedProduct D w x), so-far .score-size, small .product-size);
         true-size = omega (arith, size-add trueSum (w *ℤ x), so-far .true-size, small .true-size);
         minus-size = omega (arith, size-add minus (below (w *ℤ x)), below-size (w *ℤ x), so-far .minus-size, small .true-size);
         error-size = omega (arith, size-add error (residue D w x), so-far .error-size, small .residue-size);
-        magnitude-size = omega (arith, more (λ w x. natAbs (w *ℤ x)), so-far .magnitude-size, small .true-size);
+        magnitude-size = omega (arith, sum-next ws fs i h g (λ w x. natAbs (w *ℤ x)), so-far .magnitude-size, small .true-size);
       }
 
 -- the same of equal numbers

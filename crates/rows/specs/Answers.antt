@@ -9,7 +9,7 @@ use Rattle.designs.specs.Products.{designOf}
 use Rattle.designs.specs.Rows.{Report, report, residues}
 use Rattle.designs.specs.Scoring.{rowOutcome, rowWritten}
 use Rattle.designs.specs.Demand.{Demand}
-use Rattle.designs.proofs.Widths.{KeepsBit}
+use Rattle.designs.specs.Designs.{KeepsBit}
 use Rattle.kernels.specs.Steps.{served}
 use Rattle.rows.specs.declared.RowReport.{RowReport}
 use Rattle.rows.specs.declared.Scored.{Scored}
@@ -22,7 +22,7 @@ abbrev pub given : Scored → Outcome Report
 given (S.Report r) = accepted (reportOf r)
 given (S.Refused n) = refused n
 
--- all sums are below 2^43 in size
+-- no sum of a report reaches 2^43 in size
 pub record Small (r : Report) : Type 0 where
   pub score : natAbs (r .score) < 2 ^ 43
   pub trueSum : natAbs (r .trueSum) < 2 ^ 43

@@ -39,8 +39,8 @@ fn size(x: i16) -> u32
     signs::magnitude(x as i64) as u32
 }
 
-// As `kernels::product_of`, which is compiled once for all its callers and so would be a call for each pair. Here each kernel is a part
-// of the loop, and the compiler makes a loop for each design.
+// The same choice as in `products`, where it is compiled once for all its callers: for a row that would be a call for each pair. Here each
+// kernel is a part of the loop, and the compiler makes a loop for each design.
 fn by_design(design: u32, setting: u32, a: u32, b: u32) -> u64
     requires { ⌜ 0 < design ⌝ }
     ensures { λ r. ⌜ r ≡ product (served (designOf design setting)) a b ⌝ }

@@ -10,7 +10,7 @@ use lib.ListN.{length}
 use denote.Ref.{RefT}
 use Rattle.stores.specs.Stores.{storeRefusal}
 use Rattle.stores.specs.Parts.{Part, RowPart}
-use Rattle.stores.proofs.Judged.{accept}
+use Rattle.stores.proofs.FoundRow.{found}
 
 module _ (store : RefT (List ℤ)) {part : RefT (List ℤ)} (columns row : ℕ) where
   pub row-handed : {start n : ℕ} → storeRefusal (length (store .now)) columns row ≡ 0 → Part store part start n
@@ -18,7 +18,7 @@ module _ (store : RefT (List ℤ)) {part : RefT (List ℤ)} (columns row : ℕ) 
   row-handed e p s n =
       record {
         lies = rw (eq-eqb _ 0 e, ← s, ← n) p;
-        accepted = λ _. omega (arith, p .count, accept (length (store .now)) columns row e .some);
+        accepted = λ _. omega (arith, p .count, found (length (store .now)) columns row e .some);
         refused = λ h. absurd (h e);
       }
 

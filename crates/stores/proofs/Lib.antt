@@ -1,2 +1,2 @@
-pub mod Judged
+pub mod FoundRow
 pub mod Handed

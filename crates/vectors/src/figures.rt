@@ -16,8 +16,8 @@ use crate::row_vectors::is_due;
 use crate::tally::Tally;
 
 // In their order: the table's rows; that design 3 at width 8 takes 8 stages, and neither 0 nor 9; that width 8 signed takes −128 as
-// the first operand, and not 128; the starred row; that 4,096 pairs are scored, and 4,097 not; that score −20 with shift 3 is −2.5,
-// and T 39 then 4.875; the singles.
+// the first operand, and not 128; the starred row; that 4,096 pairs are scored, and 4,097 not; that −20 over 2^3 is handed out as −2.5,
+// and T 39 then as 4.875; the singles.
 pub fn run() -> Tally {
     lines::count(
         b"q 1 8 0 255 0 65024 1

@@ -7,16 +7,16 @@ use crate::fields::Fields;
 use crate::refusal::is_refusal;
 
 pub fn is_score(fields: Fields) -> bool {
-    let given = scores::scale(i64_of(fields.b), fields.c, u32_of(fields.d));
+    let given = scaling::scale(i64_of(fields.b), fields.c, u32_of(fields.d));
     (fields.d <= U32) & is_due(given, fields.e, fields.f, fields.g)
 }
 
-fn is_due(given: scores::Scaled, refusal: u64, score: u64, sum: u64) -> bool {
+fn is_due(given: scaling::Scaled, refusal: u64, score: u64, sum: u64) -> bool {
     match given {
-        scores::Scaled::Values(values) => {
+        scaling::Scaled::Values(values) => {
             (refusal == 0) & is_pattern(score, values.score) & is_pattern(sum, values.magnitude_sum)
         }
-        scores::Scaled::Refused(number) => is_refusal(number, refusal) & (score == 0) & (sum == 0),
+        scaling::Scaled::Refused(number) => is_refusal(number, refusal) & (score == 0) & (sum == 0),
     }
 }
 

@@ -5,13 +5,13 @@ use crate::fields::Fields;
 use crate::refusal::is_refusal;
 
 pub fn is_single(fields: Fields) -> bool {
-    let given = floats::single_product(u32_of(fields.d), u32_of(fields.e));
-    is_due(floats::bits(given), fields.f, fields.g)
+    let given = singles::single_product(u32_of(fields.d), u32_of(fields.e));
+    is_due(singles::bits(given), fields.f, fields.g)
 }
 
-fn is_due(given: floats::Pattern, refusal: u64, bits: u64) -> bool {
+fn is_due(given: singles::Pattern, refusal: u64, bits: u64) -> bool {
     match given {
-        floats::Pattern::Value(pattern) => (refusal == 0) & (pattern as u64 == bits),
-        floats::Pattern::Refused(number) => is_refusal(number, refusal) & (bits == 0),
+        singles::Pattern::Value(pattern) => (refusal == 0) & (pattern as u64 == bits),
+        singles::Pattern::Refused(number) => is_refusal(number, refusal) & (bits == 0),
     }
 }

@@ -2,7 +2,7 @@
 
 /// A design with its setting.
 ///
-/// A setting that the design does not take is not an error here: the operation refuses it with [`Refusal::SettingNotTaken`].
+/// A setting that the design does not take is not an error here: the operation refuses it with [`Refusal::SettingOutOfRange`].
 ///
 /// ```
 /// use highvane::{unsigned_product, Design, Refusal, Width};
@@ -10,10 +10,10 @@
 /// let two_stages = Design::Staged { stages: 2 };
 /// assert_eq!(unsigned_product(two_stages, Width::Bits8, 7, 7), Ok(48));
 /// let nine_stages = Design::Staged { stages: 9 };
-/// assert_eq!(unsigned_product(nine_stages, Width::Bits8, 7, 7), Err(Refusal::SettingNotTaken));
+/// assert_eq!(unsigned_product(nine_stages, Width::Bits8, 7, 7), Err(Refusal::SettingOutOfRange));
 /// ```
 ///
-/// [`Refusal::SettingNotTaken`]: crate::Refusal::SettingNotTaken
+/// [`Refusal::SettingOutOfRange`]: crate::Refusal::SettingOutOfRange
 #[derive(Clone, Copy, Debug, PartialEq, Eq, Hash)]
 pub enum Design {
     /// Design 1: the fractions of both operands are added as logarithms.
@@ -50,7 +50,7 @@ impl Design {
     /// let unknown = Design::from_numbers(9, 0);
     /// assert_eq!(unsigned_product(unknown, Width::Bits8, 3, 3), Err(Refusal::UnknownDesign));
     /// let mitchell_with_setting = Design::from_numbers(1, 5);
-    /// assert_eq!(unsigned_product(mitchell_with_setting, Width::Bits8, 3, 3), Err(Refusal::SettingNotTaken));
+    /// assert_eq!(unsigned_product(mitchell_with_setting, Width::Bits8, 3, 3), Err(Refusal::SettingOutOfRange));
     /// ```
     pub const fn from_numbers(number: u32, setting: u32) -> Design {
         match (number, setting) {

@@ -18,8 +18,8 @@ pub fn unsigned_product(design: Design, width: Width, a: u64, b: u64) -> Result<
     Ok(answer.product)
 }
 
-/// The design's product of two signed numbers of the width. The design works on the sizes, and the product is negative when
-/// exactly one operand is. It refuses, in this order: 1, 2, 3, 4.
+/// The design's product of two signed numbers of the width: that of their sizes, with a minus sign where their signs differ. It
+/// refuses, in this order: 1, 2, 3, 4.
 ///
 /// ```
 /// use highvane::{signed_product, Design, Refusal, Width};

@@ -23,8 +23,7 @@ pub fn transcript(input: &[u8]) -> Vec<u8> {
     text
 }
 
-/// [`transcript`] into a lent buffer, without the heap. The part that was written is handed back; later places keep their
-/// contents.
+/// [`transcript`] into a lent buffer, without the heap. The part that was written is handed back; nothing is written after it.
 ///
 /// ```
 /// use highvane::{transcript_into, TRANSCRIPT_MAX};

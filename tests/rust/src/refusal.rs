@@ -21,7 +21,7 @@ pub enum Refusal {
     UnknownWidth = 2,
     /// 3: the setting is not one that the design takes at the width w, which is 16 for a row. Designs 1 and 2 take 0, design 3
     /// takes 1 to w stages, design 4 takes 1 to w − 1 kept bits.
-    SettingNotTaken = 3,
+    SettingOutOfRange = 3,
     /// 4: an operand is outside the width.
     OperandOutsideWidth = 4,
     /// 5: the weights and the frame differ in length.
@@ -40,7 +40,7 @@ pub enum Refusal {
     ExponentTooSmall = 11,
     /// 12: the columns are 0 or above 4,096.
     ColumnsOutOfRange = 12,
-    /// 13: the store's length is not a multiple of the columns.
+    /// 13: the columns do not divide the store's length.
     UnevenStore = 13,
     /// 14: the row number is not below the number of rows.
     NoSuchRow = 14,
@@ -66,7 +66,7 @@ impl Refusal {
     pub const ALL: [Refusal; 19] = [
         Refusal::UnknownDesign,
         Refusal::UnknownWidth,
-        Refusal::SettingNotTaken,
+        Refusal::SettingOutOfRange,
         Refusal::OperandOutsideWidth,
         Refusal::LengthsDiffer,
         Refusal::TooManyPairs,
@@ -113,7 +113,7 @@ impl fmt::Display for Refusal {
         f.write_str(match self {
             Refusal::UnknownDesign => "the design is not 1 to 4",
             Refusal::UnknownWidth => "the width is not 8, 16 or 32",
-            Refusal::SettingNotTaken => "the setting is not one that the design takes at this width",
+            Refusal::SettingOutOfRange => "the setting is not one that the design takes at this width",
             Refusal::OperandOutsideWidth => "an operand is outside the width",
             Refusal::LengthsDiffer => "the weights and the frame differ in length",
             Refusal::TooManyPairs => "the row has more than 4,096 pairs",

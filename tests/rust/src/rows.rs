@@ -24,8 +24,8 @@ pub struct Report {
     pub nonzero_pairs: u64,
 }
 
-/// Scores a frame by a row of weights at width 16. The residue of pair i, its true product less the design's, goes to place i of
-/// `residues`. Later places keep their contents, and a refusal alters no place. It refuses, in this order: 1, 3, 5, 6, 7.
+/// Scores a frame by a row of weights at width 16. Place i of `residues` gets the residue of pair i, its true product less the
+/// design's; the places after the row's are left as they were, and so are all on a refusal. It refuses, in this order: 1, 3, 5, 6, 7.
 ///
 /// ```
 /// use highvane::{score_row, Design, Refusal};

@@ -18,7 +18,7 @@ pub struct Scaled {
     pub magnitude_sum: f64,
 }
 
-/// A score and T, each divided by 2^shift, nothing rounded. Zero comes out as +0. It refuses, in this order: 15, 16.
+/// A score and T, each exactly the quotient by 2^shift; that of 0 is +0. It refuses, in this order: 15, 16.
 ///
 /// ```
 /// use highvane::{scale, Refusal};

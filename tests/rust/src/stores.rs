@@ -3,8 +3,8 @@
 use crate::refusal::judged;
 use crate::{ffi, Refusal};
 
-/// The row of that number, counted from 0, as that very part of the store. The rows of a store lie one after another, each of
-/// `columns` weights. It refuses, in this order: 12, 13, 14.
+/// The row of that number, counted from 0, as the part of the store where it lies: a store is its rows in order, `columns` weights
+/// each. It refuses, in this order: 12, 13, 14.
 ///
 /// ```
 /// use highvane::{row_of, Refusal};

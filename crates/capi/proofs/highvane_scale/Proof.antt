@@ -2,8 +2,8 @@
 use borrow.Author.Needs.{needs}
 use mathlib.Core.Path.{sym, ap, _∙_}
 use lib.Ieee.{ofBits}
-use Rattle.scores.specs.declared.Scaled.{Scaled}
-use Rattle.scores.specs.Scaling.{scaledGiven, scaledOutcome}
+use Rattle.scaling.specs.declared.Scaled.{Scaled}
+use Rattle.scaling.specs.Scaling.{scaledGiven, scaledOutcome}
 use Rattle.capi.specs.Structs.{scaledStruct}
 use mir.Facts.{toZ-ofZ}
 use mathlib.Core.Path.{_≡_}

@@ -1,37 +1,57 @@
--- The struct is laid out case by case as `reportStruct` lays out the outcome; a sum below 2^43 is read back from its bits as it is.
--- Assumes nothing.
+-- The row's answer is laid out case by case, its report as it is, and what the row promises of a report is promised of the struct's.
+-- A refusal is never 0, so nothing is promised of the zeros beside it. Assumes nothing.
 use borrow.Author.Needs.{needs}
-use mathlib.Core.Path.{_≡_, sym, ap, _∙_}
-use mir.Facts.{toZ-ofZ}
-use mir.Syntax.{w64}
-use mir.Val.{toZ, ofZ}
-use Prim.Native.Nat.{_<_, _^_}
-use lib.IntN.{ℤ, natAbs}
-use Rattle.signs.proofs.Integers.{sized}
-use Rattle.rows.specs.declared.Scored.{Scored}
+use mathlib.Core.Path.{_≡_, refl, sym, ap, _∙_, subst}
+use Prim.Native.Nat.{ℕ}
+use mathlib.Core.List.{List}
+use lib.IntN.{ℤ}
+use Rattle.designs.specs.Outcomes.{Outcome, accepted, refused}
+use Rattle.designs.specs.Products.{designOf}
+use Rattle.designs.specs.Rows.{Report, emptyReport, report}
+use Rattle.designs.specs.Scoring.{rowOutcome, rowRefusal}
+use Rattle.designs.proofs.Refusals.{zero-accepts}
 use Rattle.rows.specs.Answers.{given, reportOf}
-use Rattle.capi.specs.Structs.{reportStruct}
-use native.Mathlib.Omega.{arith}
+use Rattle.rows.specs.declared.RowReport.{RowReport}
+use Rattle.capi.specs.Rows.{RowLaid}
 use Rattle.capi.proofs.highvane_score_row.Statement.{statement}
 use Rattle.capi.proofs.highvane_score_row.Tie as tie
 
-back : (x : ℤ) → natAbs x < 2 ^ 43 → toZ w64 (ofZ w64 x) ≡ x
-back x h = toZ-ofZ (sized x (omega arith))
+-- a row is not refused with 0
+refused-not-0 : (design setting : ℕ) (ws fs before : List ℤ) (n : ℕ) → refused n ≡ rowOutcome design setting ws fs before → n ≡ 0 → ⊥
+unfolding rowOutcome
+refused-not-0 design setting ws fs before n e z =
+    zero-accepts (rowRefusal design setting ws fs before) (report (designOf design setting) ws fs) (rw z at e)
+
+-- the two cases of the struct
+report-laid : (x : RowReport) {o : Outcome Report} → accepted (reportOf x) ≡ o → RowLaid o (record { report = x; refusal = 0 })
+report-laid x e = subst (λ (o : Outcome Report). RowLaid o (record { report = x; refusal = 0 })) e (refl, refl)
+
+refusal-laid : (x : RowReport) (n : ℕ) {o : Outcome Report} → reportOf x ≡ emptyReport → refused n ≡ o → RowLaid o (record { report = x; refusal = n })
+refusal-laid x n z e = subst (λ (o : Outcome Report). RowLaid o (record { report = x; refusal = n })) e (z, refl)
 
 returns : tie.Need-returns
 returns c =
-    let answer = c .before .before .answer .given in
-    let promise = c .before .before .before .before .before .score-row .ensures in
-    let small = promise .small (reportOf (answer .0 .0)) (ap given (answer .1)) in (
-      simp (back (answer .0 .0 .score) (small .score), back (answer .0 .0 .«true_sum») (small .trueSum), back (answer .0 .0 .error) (small .error))
-          (sym (ap (λ (x : Scored). reportStruct (given x)) (answer .1)) ∙ ap reportStruct (promise .outcome)),
-      promise .written,
-    )
+    let answer = c .before .answer .given in
+    let promise = c .before .before .before .before .score-row .ensures in
+    let is = ap given (answer .1) in
+    record {
+      outcome = report-laid (answer .0 .0) (sym is ∙ promise .outcome);
+      written = promise .written;
+      demand = λ _. promise .demand (reportOf (answer .0 .0)) is;
+      small = λ _. promise .small (reportOf (answer .0 .0)) is;
+    }
 
 returns-2 : tie.Need-returns-2
 returns-2 c =
-    let promise = c .before .before .before .before .score-row .ensures in
-    (sym (ap (λ (x : Scored). reportStruct (given x)) (c .before .answer2 .given .1)) ∙ ap reportStruct (promise .outcome), promise .written)
+    let answer = c .before .before .answer2 .given in
+    let promise = c .before .before .before .before .before .score-row .ensures in
+    let is = sym (ap given (answer .1)) ∙ promise .outcome in
+    record {
+      outcome = refusal-laid (c .empty .result) (answer .0 .0) (c .empty .ensures) is;
+      written = promise .written;
+      demand = λ z. absurd (refused-not-0 _ _ _ _ _ (answer .0 .0) is z);
+      small = λ z. absurd (refused-not-0 _ _ _ _ _ (answer .0 .0) is z);
+    }
 
 pub highvane-score-row-spec : {M : Type 1} → statement M
 highvane-score-row-spec =
@@ -40,6 +60,7 @@ highvane-score-row-spec =
     (λ c κs. search needs)
     (λ c. search needs)
     (λ c. search needs)
+    (λ c κs. search needs)
     (λ c. search needs)
     returns
     (λ c. search needs)

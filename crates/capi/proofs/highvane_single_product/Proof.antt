@@ -4,10 +4,10 @@ use mathlib.Core.Path.{_≡_, refl, sym, ap, _∙_}
 use Prim.Native.Nat.{ℕ}
 use lib.Ieee.{binary32, ofBits}
 use Rattle.designs.specs.Outcomes.{Outcome, accepted, refused}
-use Rattle.floats.specs.declared.Single.{Single}
-use Rattle.floats.specs.declared.Single.the-variants as S
-use Rattle.floats.specs.Answers.{asSingle}
-use Rattle.floats.specs.Singles.{singleOutcome}
+use Rattle.singles.specs.declared.Single.{Single}
+use Rattle.singles.specs.declared.Single.the-variants as S
+use Rattle.singles.specs.Answers.{asSingle}
+use Rattle.singles.specs.Singles.{singleOutcome}
 use Rattle.capi.specs.declared.SingleProduct.{SingleProduct}
 use Rattle.capi.specs.Structs.{singleStruct}
 use Rattle.capi.proofs.highvane_single_product.Statement.{statement}

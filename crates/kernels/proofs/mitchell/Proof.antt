@@ -4,7 +4,7 @@ use mathlib.Core.Path.{_≡_, ap, ap₂, _∙_}
 use Prim.Native.Nat.{ℕ, max, _+_, _*_, _^_}
 use Rattle.designs.specs.Designs.{mitchell, rest}
 use Rattle.designs.proofs.Zeros.{zero-left, zero-right}
-use Rattle.kernels.proofs.Carry.{Sum, sum}
+use Rattle.kernels.proofs.MitchellSteps.{Sum, sum}
 use native.Mathlib.Omega.{arith}
 use Rattle.kernels.proofs.mitchell.Statement.{statement}
 use Rattle.kernels.proofs.mitchell.Tie as tie

@@ -4,7 +4,7 @@ use mathlib.Core.Path.{_≡_, ap, _∙_}
 use Prim.Native.Nat.{ℕ, _+_, _/_, _%_, _^_}
 use lib.Bits.{bitAnd, and-mask}
 use Rattle.designs.specs.Designs.{nearPower}
-use Rattle.kernels.proofs.Wrapping.{lead, bit-mod}
+use Rattle.kernels.proofs.NearestSteps.{lead, bit-mod}
 use native.Mathlib.Omega.{arith}
 use Rattle.kernels.proofs.near_power.Statement.{statement}
 use Rattle.kernels.proofs.near_power.Tie as tie

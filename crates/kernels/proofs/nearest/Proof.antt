@@ -3,7 +3,7 @@ use borrow.Author.Needs.{needs}
 use mathlib.Core.Path.{_∙_}
 use Rattle.designs.specs.Designs.{nearest}
 use Rattle.designs.proofs.Zeros.{zero-left, zero-right}
-use Rattle.kernels.proofs.Wrapping.{nearest-wrapped}
+use Rattle.kernels.proofs.NearestSteps.{nearest-wrapped}
 use native.Mathlib.Omega.{arith}
 use Rattle.kernels.proofs.nearest.Statement.{statement}
 use Rattle.kernels.proofs.nearest.Tie as tie

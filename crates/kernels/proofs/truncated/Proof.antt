@@ -12,7 +12,7 @@ use Rattle.designs.proofs.Carried.{carried, carried-top}
 use Rattle.designs.proofs.Parts.{up-to}
 use Rattle.designs.proofs.Truncated.{total}
 use Rattle.designs.proofs.Zeros.{zero-left, zero-right}
-use Rattle.kernels.proofs.Truncation.{Sum, kept-is, sum}
+use Rattle.kernels.proofs.TruncatedSteps.{Sum, kept-is, sum}
 use Rattle.kernels.proofs.truncated.Statement.{statement}
 use Rattle.kernels.proofs.truncated.Tie as tie
 

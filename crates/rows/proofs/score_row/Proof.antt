@@ -1,7 +1,7 @@
 -- `score_row` judges, and scores what is accepted. Assumes nothing.
 use borrow.Author.Needs.{needs}
 use mathlib.Core.Path.{sym, _∙_}
-use Rattle.rows.proofs.Judged.{ready, refuse, score}
+use Rattle.rows.proofs.RowOutcome.{ready, refuse, score}
 use Rattle.rows.proofs.score_row.Statement.{statement}
 use Rattle.rows.proofs.score_row.Tie as tie
 

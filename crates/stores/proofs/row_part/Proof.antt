@@ -5,7 +5,7 @@ use mathlib.Core.Path.{_≡_, refl, sym, _∙_}
 use native.Mathlib.Omega.{arith}
 use lib.ListN.{length}
 use Rattle.stores.specs.Stores.{storeRefusal}
-use Rattle.stores.proofs.Judged.{Accepted, accept}
+use Rattle.stores.proofs.FoundRow.{Found, found}
 use Rattle.stores.proofs.Handed.{row-handed, nothing-handed}
 use Rattle.stores.proofs.row_part.Statement.{statement}
 use Rattle.stores.proofs.row_part.Tie as tie
@@ -23,8 +23,8 @@ returns c =
 judged : (c : tie.Else1) → let a = c .before .before .args in storeRefusal (length (a .store .now)) (a .columns) (a .row) ≡ 0
 judged c = sym (c .before .row-refusal .ensures) ∙ c .if1 .left
 
-settled : (c : tie.Else1) → let a = c .before .before .args in Accepted (length (a .store .now)) (a .columns) (a .row)
-settled c = accept _ _ _ (judged c)
+settled : (c : tie.Else1) → let a = c .before .before .args in Found (length (a .store .now)) (a .columns) (a .row)
+settled c = found _ _ _ (judged c)
 
 mul-start : tie.Need-mul-start
 mul-start c = omega (arith, settled c)

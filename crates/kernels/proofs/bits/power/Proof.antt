@@ -1,6 +1,6 @@
 -- `power` shifts a one by fewer than 64 places. Assumes nothing.
 use borrow.Author.Needs.{needs}
-use Rattle.kernels.proofs.Powers.{one-shifted}
+use Rattle.designs.proofs.Parts.{one-shifted}
 use Rattle.kernels.proofs.bits.power.Statement.{statement}
 use Rattle.kernels.proofs.bits.power.Tie as tie
 

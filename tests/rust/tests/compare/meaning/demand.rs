@@ -5,8 +5,8 @@
 use super::designs::{parts, power};
 use super::rows::Report;
 
-/// Whether the error is within the design's bound, which designs 1 and 2 meet exactly when `meets` says so, and all sums are
-/// below 2^43 in size.
+/// Whether the error is within the design's bound, which designs 1 and 2 meet exactly when `meets` says so, and no sum reaches
+/// 2^43 in size.
 pub fn holds((design, setting): (u32, u32), weights: &[i16], frame: &[i16], report: &Report) -> bool {
     let error = report.error.abs();
     let (magnitude_sum, pairs) = (report.magnitude_sum, report.nonzero_pairs);

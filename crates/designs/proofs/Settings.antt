@@ -1,0 +1,41 @@
+-- What a setting that is accepted gives: a width of the list has at most 32 bits, and at such a width design 4 keeps at least one bit
+-- and at most 31. Both go by the tests that were passed. Assumes nothing.
+use mathlib.Core.Path.{_≡_}
+use Prim.Native.Nat.{ℕ, _-_, _≤_, _<_}
+use native.Mathlib.Omega.{arith}
+use mathlib.Core.Bool.{true}
+use borrow.Author.Tests.{lt-leb, leb-true, eqb-true, eqb-false}
+use lib.Dec.{leb, eqb}
+use Rattle.designs.specs.Designs.{Design, KeepsBit, KeepsAtMost, mitchell, nearest, staged, truncated}
+use Rattle.designs.specs.Products.{isDesign, isWidth, designOf, takesSetting}
+use Rattle.designs.proofs.Cases.{both, by-bool}
+
+pub width-bounds : (width : ℕ) → isWidth width ≡ true → (1 ≤ width) × (width ≤ 32)
+width-bounds width e =
+    by-bool (λ _. (1 ≤ width) × (width ≤ 32)) (eqb width 8) (λ h. at 8 (eqb-true width 8 h) (omega arith) (omega arith))
+    (λ h. by-bool (λ _. (1 ≤ width) × (width ≤ 32)) (eqb width 16) (λ g. at 16 (eqb-true width 16 g) (omega arith) (omega arith))
+    (λ g. at 32 (eqb-true width 32 (simp (h, g) at e)) (omega arith) (omega arith)))
+  where
+    at : (n : ℕ) → width ≡ n → 1 ≤ n → n ≤ 32 → (1 ≤ width) × (width ≤ 32)
+    at n e h g = (omega arith, omega arith)
+
+module _ (design width setting : ℕ) (d : isDesign design ≡ true) (t : takesSetting design width setting ≡ true) where
+  pub known : 0 < design
+  known = leb-true 1 design (both (leb 1 design) (leb design 4) d .0)
+
+  -- a claim on the design with its number, from the claim on each
+  by-design : (P : Design → Type 0) → P mitchell → P nearest → P (staged setting)
+      → (1 ≤ setting → setting ≤ width - 1 → P (truncated setting)) → P (designOf design setting)
+  by-design P one two three four =
+      by-bool (λ _. P (designOf design setting)) (eqb design 1) (λ h. rw h one)
+      (λ h. by-bool (λ _. P (designOf design setting)) (eqb design 2) (λ g. rw (h, g) two)
+      (λ g. by-bool (λ _. P (designOf design setting)) (eqb design 3) (λ f. rw (h, g, f) three)
+      (λ f. let above : 2 < design = omega (arith, known, eqb-false design 1 h, eqb-false design 2 g) in
+      let range = both (leb 1 setting) (leb setting (width - 1)) (simp (lt-leb design 2 above, f) at t) in
+      rw (h, g, f) (four (leb-true 1 setting (range .0)) (leb-true setting (width - 1) (range .1))))))
+
+  pub keeps : KeepsBit (designOf design setting)
+  keeps = by-design KeepsBit tt tt tt (λ h g. h)
+
+  pub few : width ≤ 32 → KeepsAtMost 31 (designOf design setting)
+  few w = by-design (KeepsAtMost 31) tt tt tt (λ h g. omega arith)

@@ -1,5 +1,0 @@
-pub mod Singles
-pub mod Meaning
-pub mod Answers
-pub mod Steps
-pub mod Figures

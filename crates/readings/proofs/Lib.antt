@@ -1,2 +1,0 @@
-pub mod Signed16
-pub mod OneRecord

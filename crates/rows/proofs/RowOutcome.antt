@@ -1,0 +1,87 @@
+-- The outcome of a row. A refused row promises nothing of a report and leaves every place; of an accepted one no test applied, so that
+-- its setting is one that the kernels serve, and its report is the definition's, of which the third demand holds. Assumes nothing.
+use mathlib.Core.Path.{_≡_, refl, sym, ap, ap₂, _∙_, subst}
+use Prim.Native.Nat.{ℕ, zero, suc}
+use native.Mathlib.Nat.{le-refl}
+use native.Mathlib.Omega.{arith}
+use mathlib.Core.List.{List, _++_}
+use borrow.Author.Tests.{eqb-true, ltb-false, not-false}
+use lib.Dec.{eqb}
+use lib.IntN.{ℤ}
+use lib.ListN.{length, take, drop}
+use lib.Seq.{take-length}
+use Rattle.designs.specs.Designs.{Design}
+use Rattle.designs.specs.Outcomes.{accepted, refused, first, unlessRefused}
+use Rattle.designs.specs.Products.{designOf, isDesign, takesSetting}
+use Rattle.designs.specs.Rows.{Report, report, residues, pairwise}
+use Rattle.designs.specs.Signs.{residue}
+use Rattle.designs.specs.Scoring.{rowRefusals, rowWidth, rowRefusal, rowOutcome, rowWritten, writtenUnless}
+use Rattle.designs.specs.Demand.{Demand}
+use Rattle.designs.proofs.Demand.{demand}
+use Rattle.designs.proofs.Prefixes.{pairwise-length}
+use Rattle.kernels.proofs.Served.{serves}
+use Rattle.designs.proofs.Refusals.{none, refused-is}
+use Rattle.designs.proofs.Settings.{known, keeps, few}
+use Rattle.rows.specs.Answers.{reportOf, Ready, Scoring, Small, Summed}
+use Rattle.rows.specs.declared.Scored.the-variants as S
+use Rattle.rows.specs.declared.RowReport.{RowReport}
+
+residues-length : (D : Design) (ws fs : List ℤ) → length ws ≡ length fs → length (residues D ws fs) ≡ length ws
+unfolding residues
+residues-length D ws fs e =
+    ap₂ (λ (us vs : List ℤ). length (pairwise (residue D) us vs)) (sym (take-length ws)) (sym (ap (λ (k : ℕ). take k fs) e ∙ take-length fs))
+    ∙ pairwise-length (residue D) (length ws) ws fs (le-refl (length ws)) (omega arith)
+
+module _ (design setting : ℕ) (ws fs before : List ℤ) where
+  abbrev refusal : ℕ
+  refusal = first (rowRefusals design setting (length ws) (length fs) (length before))
+
+  pub ready : refusal ≡ 0 → Ready design setting ws fs before
+  unfolding rowRefusals
+  ready e =
+      let tests = none (rowRefusals design setting (length ws) (length fs) (length before)) tt e in
+      let d = not-false (isDesign design) (tests 0) in
+      let t = not-false (takesSetting design rowWidth setting) (tests 1) in
+      record {
+        known = known design rowWidth setting d t;
+        serves = serves _ (few design rowWidth setting d t (omega arith));
+        keeps = keeps design rowWidth setting d t;
+        lengths = eqb-true (length ws) (length fs) (not-false (eqb (length ws) (length fs)) (tests 2));
+        pairs = ltb-false 4096 (length ws) (tests 3);
+        places = ltb-false (length before) (length ws) (tests 4);
+      }
+
+  pub refuse : (n : ℕ) → n ≡ refusal → (n ≡ 0 → ⊥) → Scoring design setting ws fs before before (S.Refused n)
+  unfolding rowOutcome rowWritten rowRefusal
+  refuse n e h =
+      record {
+        outcome = refused-is n (accepted (report (designOf design setting) ws fs)) h ∙ ap (λ (k : ℕ). unlessRefused k (report (designOf design setting) ws fs)) e;
+        written = kept n h ∙ ap (λ (k : ℕ). writtenUnless k (residues (designOf design setting) ws fs) before) e;
+        demand = λ r p. absurd (clash r p);
+        small = λ r p. absurd (clash r p);
+      }
+    where
+      kept : (n : ℕ) → (n ≡ 0 → ⊥) → before ≡ writtenUnless n (residues (designOf design setting) ws fs) before
+      kept zero h = absurd (h refl)
+      kept (suc n) h = refl
+
+      clash : (r : Report) → refused n ≡ accepted r → ⊥
+      clash r p = let z : _≡_ {A = ℕ} 0 1 = cc in omega arith
+
+  pub score : (after : List ℤ) (r : RowReport) → refusal ≡ 0 → Summed design setting ws fs before after r → Scoring design setting ws fs before after (S.Report r)
+  unfolding rowOutcome rowWritten rowRefusal
+  score after r e sums =
+      record {
+        outcome = ap accepted (sums .is) ∙ ap (λ (k : ℕ). unlessRefused k (report (designOf design setting) ws fs)) (sym e);
+        written =
+            sums .written ∙ ap (λ (k : ℕ). residues (designOf design setting) ws fs ++ drop k before) (sym count)
+            ∙ ap (λ (k : ℕ). writtenUnless k (residues (designOf design setting) ws fs) before) (sym e);
+        demand = λ q p. subst (Demand (designOf design setting) ws fs) (sym (sums .is) ∙ same q p) (demand (designOf design setting) ws fs);
+        small = λ q p. subst Small (same q p) (sums .small);
+      }
+    where
+      same : (q : Report) → accepted (reportOf r) ≡ accepted q → reportOf r ≡ q
+      same q p = cc
+
+      count : length (residues (designOf design setting) ws fs) ≡ length ws
+      count = residues-length (designOf design setting) ws fs (ready e .lengths)

@@ -1,0 +1,4 @@
+pub mod Singles
+pub mod Meaning
+pub mod Answers
+pub mod Figures

@@ -1,0 +1,5 @@
+pub mod Text
+pub mod Lines
+pub mod Transcripts
+pub mod Answers
+pub mod Figures

@@ -1,0 +1,64 @@
+"""What document 01 says of particular inputs: its tables and examples, number by number."""
+
+from .products import SIGNED, UNSIGNED, ProductInput
+from .rows import RowReport
+from .scaling import ScalingInput
+from .singles import SingleInput
+
+# "Figures to hold the designs to": the input, its product and its residue.
+PRODUCTS = (
+    (ProductInput(UNSIGNED, 1, 8, 0, 3, 3), 8, 1),
+    (ProductInput(UNSIGNED, 1, 8, 0, 5, 6), 28, 2),
+    (ProductInput(UNSIGNED, 1, 8, 0, 192, 192), 32768, 4096),
+    (ProductInput(UNSIGNED, 1, 8, 0, 255, 255), 65024, 1),
+    (ProductInput(UNSIGNED, 2, 8, 0, 5, 6), 32, -2),
+    (ProductInput(UNSIGNED, 2, 8, 0, 191, 192), 40704, -4032),
+    (ProductInput(SIGNED, 2, 8, 0, -5, 6), -32, 2),
+    (ProductInput(UNSIGNED, 2, 32, 0, 4294967295, 4294967295), 18446744065119617024, 1),
+    (ProductInput(UNSIGNED, 3, 8, 1, 7, 7), 40, 9),
+    (ProductInput(UNSIGNED, 3, 8, 2, 7, 7), 48, 1),
+    (ProductInput(UNSIGNED, 3, 8, 3, 7, 7), 49, 0),
+    (ProductInput(UNSIGNED, 4, 8, 4, 3, 3), 8, 1),
+    (ProductInput(UNSIGNED, 4, 8, 4, 16, 16), 272, -16),
+    (ProductInput(UNSIGNED, 4, 8, 4, 255, 255), 63488, 1537),
+    (ProductInput(UNSIGNED, 4, 8, 1, 1, 1), 1, 0),
+)
+
+# The sentences below that table on settings and operands: the input and its refusal.
+JUDGED_PRODUCTS = (
+    (ProductInput(UNSIGNED, 3, 8, 8, 7, 7), 0),
+    (ProductInput(UNSIGNED, 3, 8, 0, 7, 7), 3),
+    (ProductInput(UNSIGNED, 3, 8, 9, 7, 7), 3),
+    (ProductInput(SIGNED, 3, 8, 8, 7, 7), 0),
+    (ProductInput(SIGNED, 3, 8, 0, 7, 7), 3),
+    (ProductInput(SIGNED, 3, 8, 9, 7, 7), 3),
+    (ProductInput(SIGNED, 1, 8, 0, -128, 1), 0),
+    (ProductInput(SIGNED, 1, 8, 0, 1, -128), 0),
+    (ProductInput(SIGNED, 1, 8, 0, 128, 1), 4),
+)
+
+# The row with a star, by design 1, and its report.
+ROW_PAIRS = ((3, 3), (-5, 6), (0, 7))
+ROW_REPORT = RowReport(score=-20, true_sum=-21, error=-1, t=39, n=2, residues=(1, -2, 0))
+
+# The lengths at the limit of a row, and what each is refused with.
+ROW_LENGTHS = ((4096, 0), (4097, 6))
+
+# The score that is handed out; its T is that of the row.
+SCALING = ScalingInput(ROW_REPORT.score, ROW_REPORT.t, 3)
+SCALING_SCORE = -2.5
+
+# Four singles, then the one of the bench program: the input, its refusal and its result.
+SINGLES = (
+    (SingleInput(0x3FA00000, 0x3FA00000), 0, 0x3FC00000),
+    (SingleInput(0x00C00000, 0x3F400000), 0, 0x00800000),
+    (SingleInput(0x00800000, 0x3F000000), 11, 0),
+    (SingleInput(0x7F000000, 0x40000000), 10, 0),
+    (SingleInput(0x3FC00000, 0x3FC00000), 0, 1073741824),
+)
+
+# The bench program's sample, and all that it prints.
+RECORDS = bytes.fromhex(
+    "01 01 00 03 00 03 00" "03 FF FF" "02 00 00 C0 3F 00 00 C0 3F" "01 09 00 01 00 01 00" "07"
+)
+RECORDS_TEXT = "1 ok 8\n3 ok 65024\n2 ok 1073741824\n1 no 1\n7 no 17\ntotal 3 2\n"
