@@ -1,11 +1,11 @@
 #!/usr/bin/env python3
 """Check the compiled archive of the C interface, and print the bytes of each function.
 
-The chip has no multiplier, so no function that computes a design's product may hold a multiply instruction. Scoring a row also
-forms the true product of each pair, which the bench reads and the chip never does: one multiply in each of its loops, of which the
-compiler makes one for each design. The writer of decimals divides by ten, which the compiler does by a multiply. The archive must
+The chip has no multiplier, so no function that computes a design's product may hold a multiply instruction. Scoring a row, which
+the bench does and the chip does otherwise, multiplies: it forms the true product of each pair, and by designs 2 and 3 the residue as
+the product of what powers leave; the compiler makes two loops of each, for four pairs and for the rest. The writer of decimals divides by ten, which the compiler does by a multiply. The archive must
 need nothing from outside (no undefined symbol) and hold no data that a program could write, so that it can go into ROM as it is.
-Constants are counted: the byte table's 512 bytes, and the words of a transcript.
+Constants are counted: the byte table's 512 bytes, the words of a transcript, and the vectors of four equal numbers that rows read.
 
 Usage: python3 tools/check_archive.py ARCHIVE     (rt staticlib capi writes target/staticlib/libcapi.a)
 """
@@ -15,12 +15,12 @@ import sys
 
 # every multiply of x86-64: mul, imul, mulx, and the vector ones (pmuludq, vpmulld, mulps, ..)
 MULTIPLY = re.compile(r'v?p?i?mul\w*|v?pmadd\w*|vf[n]?m(?:add|sub)\w*')
-# how many a function may have: a row's true product in the loop of each design, a decimal's division by ten
-ALLOWED = {'highvane_score_row': 4, 'transcripts::writers::put_number': 1}
+# how many a function may have: a row's true products and residues, of which a vector takes up to three; a decimal's division by ten
+ALLOWED = {'highvane_score_row': 17, 'transcripts::writers::put_number': 1}
 # sections that a program writes, or that run before it; and constants, with how many bytes they may have
 DATA = re.compile(r'\.(data|bss|tdata|tbss|init_array|fini_array)\b')
 CONSTANTS = re.compile(r'\.rodata\b')
-CONSTANT_BYTES = 512 + 40
+CONSTANT_BYTES = 512 + 40 + 112
 
 
 def output(*command):

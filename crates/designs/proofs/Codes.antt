@@ -10,17 +10,17 @@ use lib.Pow.{pow-pos, pow-add}
 use Rattle.designs.specs.Designs.{log2, rest, unlessZero, byMitchell, mitchell, formula, product}
 use Rattle.designs.specs.Codes.{code, scaledProduct, byCodes}
 use Rattle.designs.proofs.Cases.{either-lt}
-use Rattle.designs.proofs.Parts.{rest-lt, log2-below, up-to}
+use Rattle.designs.proofs.Parts.{parts, rest-lt, log2-below, up-to}
 use Rattle.designs.proofs.Carried.{carried, carried-scale}
 use Rattle.designs.proofs.Zeros.{product-is}
 
 -- q is the quotient and u the rest
-scaled-at : (h q u : ℕ) → u < 2 ^ h → scaledProduct h (q * 2 ^ h + u) ≡ (2 ^ h + u) * 2 ^ q
+pub scaled-at : (h q u : ℕ) → u < 2 ^ h → scaledProduct h (q * 2 ^ h + u) ≡ (2 ^ h + u) * 2 ^ q
 unfolding scaledProduct
 scaled-at h q u l = ap₂ (λ (x y : ℕ). (2 ^ h + x) * 2 ^ y) (digits-mod q l) (digits-div q l)
 
 -- where u reaches 2^h, one goes over into the quotient
-scaled-carried : (h q u : ℕ) → u < 2 * 2 ^ h → scaledProduct h (q * 2 ^ h + u) ≡ 2 ^ q * carried (2 ^ h) u
+pub scaled-carried : (h q u : ℕ) → u < 2 * 2 ^ h → scaledProduct h (q * 2 ^ h + u) ≡ 2 ^ q * carried (2 ^ h) u
 scaled-carried h q u l =
     either-lt u (2 ^ h)
     (λ g. scaled-at h q u g ∙ simp (lt-ltb u (2 ^ h) g) (omega arith))
@@ -28,13 +28,13 @@ scaled-carried h q u l =
     ∙ simp (le-ltb u (2 ^ h) g, add-sub-of-le g, pow-add 2 q 1) (omega arith))
 
 -- the fraction of a code, a × 2^(h−k)
-abbrev fraction : ℕ → ℕ → ℕ
+abbrev pub fraction : ℕ → ℕ → ℕ
 fraction h v = rest v * 2 ^ (h - log2 v)
 
-fraction-lt : (h v : ℕ) → log2 v ≤ h → fraction h v < 2 ^ h
+pub fraction-lt : (h v : ℕ) → log2 v ≤ h → fraction h v < 2 ^ h
 fraction-lt h v l = omega (arith, up-to h (log2 v) l, mul-le-mul-right (2 ^ (h - log2 v)) (rest-lt v), pow-pos (h - log2 v))
 
-log2-le-bits : (h v : ℕ) → v < 2 ^ suc h → log2 v ≤ h
+pub log2-le-bits : (h v : ℕ) → v < 2 ^ suc h → log2 v ≤ h
 unfolding log2
 log2-le-bits h zero l = omega arith
 log2-le-bits h (suc v) l = omega (arith, log2-below (suc h) (suc v) (omega arith) l)
@@ -65,7 +65,7 @@ module _ (h A B : ℕ) (ha : A < 2 ^ suc h) (hb : B < 2 ^ suc h) where
         ap (λ (x : ℕ). x * (rest B * 2 ^ log2 A)) (up-to h (log2 B) (log2-le-bits h B hb)),
       ))
 
-  scaled : scaledProduct h (code h A + code h B) ≡ 2 ^ h * byMitchell A B
+  pub scaled : scaledProduct h (code h A + code h B) ≡ 2 ^ h * byMitchell A B
   unfolding code byMitchell
   scaled =
       ap (scaledProduct h) (omega arith)
@@ -88,3 +88,11 @@ module _ (h A B : ℕ) (ha : A < 2 ^ suc h) (hb : B < 2 ^ suc h) where
   pub nonzero-codes-mitchell : 0 < A → 0 < B → scaledProduct h (code h A + code h B) / 2 ^ h ≡ product mitchell A B
   unfolding formula
   nonzero-codes-mitchell pa pb = quotient ∙ sym (product-is mitchell A B pa pb)
+
+-- one code gives back its number
+pub code-scaled : (h v : ℕ) → 0 < v → v < 2 ^ suc h → scaledProduct h (code h v) ≡ 2 ^ h * v
+unfolding code
+code-scaled h v p l =
+    let k = log2-le-bits h v l in
+    ap (scaledProduct h) (omega arith) ∙ scaled-at h (log2 v) (fraction h v) (fraction-lt h v k)
+    ∙ omega (arith, ap (λ (x : ℕ). x * rest v) (up-to h (log2 v) k), ap (λ (x : ℕ). 2 ^ h * x) (parts v p))

@@ -6,7 +6,7 @@ use native.Mathlib.Omega.{arith}
 use mathlib.Core.List.{List, [], _∷_}
 use lib.Ieee.{unlike}
 use lib.IntN.{ℤ, natAbs, _-ℤ_, _*ℤ_, +ℤ-idr}
-use Rattle.designs.specs.Designs.{Design, mitchell, nearest, staged, truncated, unlessZero, formula, product, byMitchell, byStages, byTruncation}
+use Rattle.designs.specs.Designs.{Design, mitchell, nearest, staged, truncated, unlessZero, formula, product, byMitchell, byStages, byTruncation, left}
 use Rattle.designs.specs.Signs.{negative, signedProduct, residue}
 use Rattle.designs.specs.Rows.{report, pairwise, sumℤ, sum, nonzero}
 use Rattle.designs.specs.Demand.{Demand, Bounded, Met}
@@ -15,7 +15,7 @@ use Rattle.designs.proofs.MitchellBound.{mitchell-within, mitchell-equa
 use Rattle.designs.proofs.NearestBound.{nearest-bound, nearest-equal}
 use Rattle.designs.proofs.RowSums.{sum-minus, sum-bound}
 use Rattle.designs.proofs.Sizes.{sign-dist, size-true, true-is}
-use Rattle.designs.proofs.Staged.{left, left-bound, stages-leave}
+use Rattle.designs.proofs.Staged.{left-bound, stages-leave}
 use Rattle.designs.proofs.TruncatedBound.{truncated-within}
 use Rattle.designs.proofs.Zeros.{by-zero, product-is}
 

@@ -21,3 +21,7 @@ pub mod RowSums
 pub mod Demand
 pub mod Prefixes
 pub mod Codes
+pub mod KeptCodes
+pub mod SignedGaps
+pub mod SignedOffsets
+pub mod SignedLeft

@@ -24,7 +24,7 @@ module _ (design width setting : ℕ) (d : isDesign design ≡ true) (t : takesS
   known = leb-true 1 design (both (leb 1 design) (leb design 4) d .0)
 
   -- a claim on the design with its number, from the claim on each
-  by-design : (P : Design → Type 0) → P mitchell → P nearest → P (staged setting)
+  pub by-design : (P : Design → Type 0) → P mitchell → P nearest → P (staged setting)
       → (1 ≤ setting → setting ≤ width - 1 → P (truncated setting)) → P (designOf design setting)
   by-design P one two three four =
       by-bool (λ _. P (designOf design setting)) (eqb design 1) (λ h. rw h one)

@@ -2,19 +2,19 @@
 -- finite pattern is a NaN's and each is brought back by `toBits`, and a normal one has the value size / unit. Assumes nothing.
 use mathlib.Core.Path.{_≡_, refl, sym, ap, _∙_, subst}
 use Prim.Native.Nat.{ℕ, zero, suc, _+_, _*_, _/_, _^_, _≤_, _<_}
-use native.Mathlib.Nat.{pow-succ'}
+use native.Mathlib.Nat.{eq-of-mul-eq-mul-right, pow-succ'}
 use native.Mathlib.Omega.{arith}
 use mathlib.Core.Bool.{Bool, true, false, not}
-use borrow.Author.Tests.{eq-eqb, leb-false, leb-true, ne-eqb}
+use borrow.Author.Tests.{eq-eqb, le-leb, leb-false, leb-true, lt-ltb, ne-eqb}
 use lib.Dec.{T, leb}
-use lib.Pow.{field}
-use lib.Ieee.{Float, down, fin, inf, nan, nanBits, odd, ofBits, ofFields, toBits}
+use lib.Pow.{field, pow-pos}
+use lib.Ieee.{Float, down, fin, inf, nan, nanBits, odd, ofBits, ofFields, toBits, up}
 use lib.Ieee as Ieee
 use lib.Ieee.Bits.{nanBits-is, toBits-ofBits}
 use lib.Ieee.Exact.{HasValue, odd-sign}
 use Rattle.formats.specs.Formats.{binary32, exponentField, fractionField, hidden, isMinus, isNormal, largestExponent, pattern}
 use Rattle.formats.specs.Values.{size, unit}
-use Rattle.formats.proofs.Back.{exponent-back}
+use Rattle.formats.proofs.Back.{exponent-back, fraction-back, minus-back}
 use Rattle.formats.proofs.Normals.{normal-fields}
 
 module _ (minus : Bool) (E e : ℕ) (hE : E ≤ largestExponent binary32) (he : e < hidden binary32) where
@@ -58,3 +58,27 @@ has-value x h n =
 
     sign : leb (2 ^ 31) x ≡ isMinus binary32 x
     sign = told (leb (2 ^ 31) x) refl
+
+-- a fraction that is a whole number
+cancelled : (x : Float) (s : Bool) (a c n : ℕ) → 0 < c → a ≡ n * c → HasValue x s a c → HasValue x s n 1
+cancelled nan s a c n p e v = v
+cancelled (inf t) s a c n p e v = v
+cancelled (fin t m k) s a c n p e v = (
+  v .0,
+  eq-of-mul-eq-mul-right c p (m * up k * 1) (n * down k) (omega (arith, v .1, ap (λ (z : ℕ). z * down k) e)),
+)
+
+-- A pattern made of fields stands for the whole number n where its size is n units.
+pub whole-value : (minus : Bool) (E e n : ℕ) → 0 < E → E ≤ largestExponent binary32 → e < hidden binary32 → (hidden binary32 + e) * 2 ^ E ≡ n * unit binary32
+    → HasValue (ofBits Ieee.binary32 (pattern binary32 minus E e)) minus n 1
+whole-value minus E e n p hE he q =
+    cancelled (ofBits Ieee.binary32 (pattern binary32 minus E e)) minus ((hidden binary32 + e) * 2 ^ E) (unit binary32) n (pow-pos 150) q
+    (rw (minus-back binary32 minus E e (omega arith) he, exponent-back binary32 minus E e (omega arith) he, fraction-back binary32 minus E e (omega arith) he)
+    at (has-value (pattern binary32 minus E e) (bound minus) normal))
+  where
+    bound : (s : Bool) → pattern binary32 s E e < 2 ^ 32
+    bound true = omega arith
+    bound false = omega arith
+
+    normal : isNormal binary32 (pattern binary32 minus E e) ≡ true
+    normal = rw (exponent-back binary32 minus E e (omega arith) he, lt-ltb 0 E p) (le-leb E 254 hE)

@@ -1,3 +1,7 @@
+pub mod Places
+pub mod LeftOfBlock
+pub mod Turn
+pub mod Whole
 pub mod Pair
-pub mod SoFar
+pub mod SmallSums
 pub mod RowOutcome

@@ -2,15 +2,17 @@
 use mathlib.Core.Path.{_≡_}
 use Prim.Native.Nat.{ℕ, _^_, _≤_, _<_}
 use mathlib.Core.List.{List, _++_}
-use lib.IntN.{ℤ, natAbs}
-use lib.ListN.{length, drop}
+use lib.IntN.{ℤ, pos, natAbs}
+use lib.ListN.{length, drop, getD}
+use mir.Syntax.{w16}
+use mir.Val.{SFits}
 use Rattle.designs.specs.Outcomes.{Outcome, accepted, refused}
 use Rattle.designs.specs.Products.{designOf}
 use Rattle.designs.specs.Rows.{Report, report, residues}
 use Rattle.designs.specs.Scoring.{rowOutcome, rowWritten}
 use Rattle.designs.specs.Demand.{Demand}
-use Rattle.designs.specs.Designs.{KeepsBit}
-use Rattle.kernels.specs.Steps.{served}
+use Rattle.designs.specs.Designs.{Keeps}
+use Rattle.patterns.specs.Patterns.{clamped}
 use Rattle.rows.specs.declared.RowReport.{RowReport}
 use Rattle.rows.specs.declared.Scored.{Scored}
 use Rattle.rows.specs.declared.Scored.the-variants as S
@@ -37,11 +39,13 @@ pub record Scoring (design setting : ℕ) (ws fs before after : List ℤ) (answe
   pub demand : (r : Report) → given answer ≡ accepted r → Demand (designOf design setting) ws fs r
   pub small : (r : Report) → given answer ≡ accepted r → Small r
 
+-- pair k of a row has 16-bit numbers
+abbrev pub Fits16 : List ℤ → List ℤ → ℕ → Type 0
+Fits16 ws fs k = SFits w16 (getD ws k (pos 0)) × SFits w16 (getD fs k (pos 0))
+
 -- a row that can be scored
 pub record Ready (design setting : ℕ) (ws fs before : List ℤ) : Type 0 where
-  pub known : 0 < design
-  pub serves : served (designOf design setting) ≡ designOf design setting
-  pub keeps : KeepsBit (designOf design setting)
+  pub kept : Keeps (λ t. clamped t ≡ t) (designOf design setting)
   pub lengths : length ws ≡ length fs
   pub pairs : length ws ≤ 4096
   pub places : length ws ≤ length before
@@ -50,4 +54,4 @@ pub record Ready (design setting : ℕ) (ws fs before : List ℤ) : Type 0 where
 pub record Summed (design setting : ℕ) (ws fs before after : List ℤ) (r : RowReport) : Type 0 where
   pub is : reportOf r ≡ report (designOf design setting) ws fs
   pub written : after ≡ residues (designOf design setting) ws fs ++ drop (length ws) before
-  pub small : Small (reportOf r)
+  pub fits : (k : ℕ) → k < length ws → Fits16 ws fs k

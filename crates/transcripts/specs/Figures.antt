@@ -1,5 +1,5 @@
 -- Inputs of the bench and what is printed of each, of the meaning itself: the sample of document 01, "The bench program's records", and each
--- refusal and limit of "Reading records"; in one list with one proof.
+-- refusal and limit of "Reading records"; in two lists, each with one proof.
 use mathlib.Core.Path.{_≡_, refl}
 use mathlib.Core.List.{List, [], _∷_, map}
 use Prim.Native.Nat.{ℕ}
@@ -17,7 +17,7 @@ sample =
     ∷ 7
     ∷ []
 
--- an input, and what is printed of it
+-- An input, and what is printed of it.
 pub figures : List (List ℕ × List ℕ)
 figures =
     (sample, ascii "1 ok 8\n3 ok 65024\n2 ok 1073741824\n1 no 1\n7 no 17\ntotal 3 2\n")
@@ -27,10 +27,19 @@ figures =
     ∷ (2 ∷ 0 ∷ 0 ∷ 128 ∷ 127 ∷ 0 ∷ 0 ∷ 128 ∷ 63 ∷ [], ascii "2 no 8\ntotal 0 1\n")
     ∷ (3 ∷ 10 ∷ 1 ∷ 3 ∷ 255 ∷ [], ascii "3 ok 10\n3 no 18\ntotal 1 1\n")
     ∷ (255 ∷ 3 ∷ 1 ∷ 1 ∷ [], ascii "255 no 17\ntotal 0 1\n")
-    ∷ (replicate 65536 0, ascii "0 no 17\ntotal 0 1\n")
-    ∷ (replicate 65537 3, ascii "0 no 19\ntotal 0 1\n")
     ∷ []
 
 pub figures-hold : map (λ f. transcript (f .0)) figures ≡ map (λ f. f .1) figures
 unfolding transcript figures
 figures-hold = refl
+
+-- The same on either side of the limit of the input's length.
+pub limits : List (List ℕ × List ℕ)
+limits =
+    (replicate 65536 0, ascii "0 no 17\ntotal 0 1\n")
+    ∷ (replicate 65537 3, ascii "0 no 19\ntotal 0 1\n")
+    ∷ []
+
+pub limits-hold : map (λ f. transcript (f .0)) limits ≡ map (λ f. f .1) limits
+unfolding transcript limits
+limits-hold = refl

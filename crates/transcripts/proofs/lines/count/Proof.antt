@@ -4,10 +4,10 @@ use Rattle.transcripts.proofs.lines.count.Statement.{statement}
 use Rattle.transcripts.proofs.lines.count.Tie as tie
 
 returns : tie.Need-returns
-returns c = cc
+returns c = rw (c .before .enum-told .given .1)
 
 returns-2 : tie.Need-returns-2
-returns-2 c = cc
+returns-2 c = rw (c .before .enum-told2 .given .1)
 
 pub count-spec : {M : Type 1} → statement M
 count-spec = tie.close (tie.spec (λ c. search needs) (λ c. search needs) (λ c. search needs) (λ c. search needs) returns returns-2)

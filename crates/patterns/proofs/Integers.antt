@@ -1,0 +1,79 @@
+-- Signed machine numbers: 16-bit ones widened to 32 bits, their sizes and tests, and what fits an i32. Each law goes by the two
+-- constructors of ℤ. Assumes nothing.
+use mathlib.Core.Path.{_≡_, refl, sym, ap₂, _∙_}
+use Prim.Native.Nat.{ℕ, zero, suc, _^_, _≤_, _<_}
+use native.Mathlib.Nat.{mul-le-mul}
+use native.Mathlib.Omega.{arith}
+use mathlib.Core.Bool.{Bool, true, false, false≢true}
+use lib.Dec.{T, leb·suc-zero}
+use lib.IntN.{ℤ, pos, negsuc, negℤ, natAbs, _*ℤ_}
+use lib.Signed.{ltZ, mag, natAbs-le, nonNeg}
+use mir.Syntax.{w16, w32}
+use mir.Val.{Fits, SFits, toZ, ofZ}
+use mir.Facts.{toZ-ofZ, sfits-widen}
+use Rattle.designs.specs.Signs.{negative}
+use Rattle.designs.proofs.Sizes.{size-true}
+use Rattle.patterns.specs.Patterns.{maskedBy}
+
+pub size16 : {x : ℤ} → SFits w16 x → natAbs x ≤ 2 ^ 15
+size16 {x} h = natAbs-le x (h .sfits)
+
+pub widens : {x : ℤ} → SFits w16 x → SFits w32 (toZ w16 (ofZ w16 x))
+widens h = rw (toZ-ofZ h) (sfits-widen tt h)
+
+pub widened : {x : ℤ} → SFits w16 x → toZ w32 (ofZ w32 (toZ w16 (ofZ w16 x))) ≡ x
+widened h = rw (toZ-ofZ h) (toZ-ofZ (sfits-widen tt h))
+
+-- a number of a size below 2^31 fits
+pub sized : (x : ℤ) → natAbs x < 2 ^ 31 → SFits w32 x
+sized (pos n) h = record { sfits = h }
+sized (negsuc n) h = record { sfits = omega arith }
+
+-- a result that is equal to a number that fits
+pub fits-as : {x y : ℤ} → x ≡ y → SFits w32 y → SFits w32 x
+fits-as e h = rw e h
+
+pub read-as : {x y : ℤ} → x ≡ y → SFits w32 y → toZ w32 (ofZ w32 x) ≡ y
+read-as e h = rw e (toZ-ofZ h)
+
+-- a callee's result
+pub read-back : {x y : ℤ} → mag x < 2 ^ 31 → x ≡ y → toZ w32 (ofZ w32 x) ≡ y
+read-back h e = toZ-ofZ (record { sfits = h }) ∙ e
+
+pub true-size : {w x : ℤ} → SFits w16 w → SFits w16 x → natAbs (w *ℤ x) ≤ 2 ^ 30
+true-size {w} {x} hw hx = omega (arith, size-true w x, mul-le-mul (size16 hw) (size16 hx))
+
+pub true-fits : {w x : ℤ} → SFits w16 w → SFits w16 x → SFits w32 (w *ℤ x)
+true-fits {w} {x} hw hx = sized (w *ℤ x) (omega (arith, true-size hw hx))
+
+-- and read back from a callee's result
+pub read-true : {r w x : ℤ} → mag r < 2 ^ 31 → r ≡ toZ w16 (ofZ w16 w) *ℤ toZ w16 (ofZ w16 x) → SFits w16 w → SFits w16 x → toZ w32 (ofZ w32 r) ≡ w *ℤ x
+read-true h e hw hx = read-back h (e ∙ ap₂ _*ℤ_ (toZ-ofZ hw) (toZ-ofZ hx))
+
+-- the bits of a number are 0 where it is
+pub masked-none : (z : ℤ) (p : ℕ) → SFits w32 z → ofZ w32 z ≡ 0 → 0 ≡ maskedBy z p
+masked-none (pos zero) p h e = refl
+masked-none (pos (suc n)) p h e = absurd (omega arith)
+masked-none (negsuc n) p h e = absurd (omega (arith, h .sfits))
+
+pub masked-some : (z : ℤ) (p : ℕ) → (ofZ w32 z ≡ 0 → ⊥) → p ≡ maskedBy z p
+masked-some (pos zero) p e = absurd (e refl)
+masked-some (pos (suc n)) p e = refl
+masked-some (negsuc n) p e = refl
+
+-- the machine's sign test
+pub tested : {t : Bool} (x : ℤ) → SFits w32 x → ltZ (toZ w32 (ofZ w32 x)) (pos 0) ≡ t → negative x ≡ t
+tested x h e = sym (below x) ∙ (rw (toZ-ofZ h) at e)
+  where
+    below : (x : ℤ) → ltZ x (pos 0) ≡ negative x
+    below (pos n) = leb·suc-zero n
+    below (negsuc n) = refl
+
+-- the size of a number without its sign is a machine number
+pub plain : (x : ℤ) → negative x ≡ false → natAbs x < 2 ^ 31 → T (nonNeg x) × Fits w32 (natAbs x)
+plain (pos n) e l = (tt, record { fits = omega arith })
+plain (negsuc n) e l = absurd (false≢true (sym e))
+
+pub turned : (x : ℤ) → negative x ≡ true → negative (negℤ x) ≡ false
+turned (pos n) e = absurd (false≢true e)
+turned (negsuc n) e = refl

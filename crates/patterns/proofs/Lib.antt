@@ -1,0 +1,7 @@
+pub mod Integers
+pub mod Values
+pub mod Pair
+pub mod Mitchell
+pub mod ExponentField
+pub mod KeptPatterns
+pub mod Blocks

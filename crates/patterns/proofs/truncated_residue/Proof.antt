@@ -1,0 +1,66 @@
+-- The sum of the cut patterns, with its carry, stands for the product of design 4, which is taken off the true product. Assumes nothing.
+use borrow.Author.Needs.{needs}
+use mathlib.Core.Path.{_≡_, ap, ap₂, _∙_}
+use Prim.Native.Nat.{ℕ, _+_, _-_, _%_, _^_}
+use native.Mathlib.Omega.{arith}
+use lib.Bits.{bitAnd}
+use lib.IntN.{ℤ, _-ℤ_, _*ℤ_}
+use mir.Syntax.{w32}
+use mir.Val.{toZ, ofZ}
+use mir.Facts.{toZ-ofZ}
+use Rattle.designs.specs.Designs.{truncated}
+use Rattle.designs.specs.Signs.{residue, signedProduct}
+use Rattle.patterns.specs.Patterns.{Less, patternOf}
+use Rattle.patterns.proofs.Integers.{read-back, read-true}
+use Rattle.patterns.proofs.KeptPatterns.{truncated-less}
+use Rattle.patterns.proofs.truncated_residue.Statement.{statement}
+use Rattle.patterns.proofs.truncated_residue.Tie as tie
+
+module _ (c : tie.After-with-carry) where
+  abbrev product : tie.After-true-product
+  product = c .before .before .before .before
+
+  abbrev start : tie.Start
+  start = product .before .before
+
+  abbrev t : ℕ
+  t = product .before .clamp .result
+
+  truth : toZ w32 (ofZ w32 (product .true-product .result)) ≡ start .args .w *ℤ start .args .x
+  truth = read-true (product .true-product .ok) (product .true-product .ensures) (start .fits .w) (start .fits .x)
+
+  abbrev cut : ℤ → ℕ
+  cut z = bitAnd (patternOf z) (2 ^ 32 - 2 ^ (23 - t))
+
+  less : Less (toZ w32 (ofZ w32 (product .true-product .result))) (c .with-carry .result) (signedProduct (truncated t) (start .args .w) (start .args .x))
+  less =
+      rw truth
+      (truncated-less t (omega arith) (start .fits .w) (start .fits .x) (omega arith) (c .before .log-sum .result) (c .with-carry .result) (search needs)
+      (c .before .log-sum .ensures
+      ∙ ap₂ (λ (p q : ℕ). (p + q) % 2 ^ 32) (c .before .before .before .kept-pattern .ensures ∙ ap cut (toZ-ofZ (start .fits .w)))
+      (c .before .before .kept-pattern2 .ensures ∙ ap cut (toZ-ofZ (start .fits .x))))
+      (c .with-carry .ensures))
+
+residue-by-requires : tie.Need-residue-by-requires
+residue-by-requires c κs = (_, less c)
+
+returns : tie.Need-returns
+unfolding residue
+returns c =
+    let b = c .before in
+    read-back (c .residue-by .ok) (c .residue-by .ensures _ (less b))
+    ∙ ap (λ (z : ℤ). z -ℤ signedProduct (truncated (t b)) (start b .args .w) (start b .args .x)) (truth b)
+    ∙ ap (λ (t : ℕ). residue (truncated t) (start b .args .w) (start b .args .x)) (product b .before .clamp .ensures)
+
+pub truncated-residue-spec : {M : Type 1} → statement M
+truncated-residue-spec =
+    tie.close
+    (tie.spec
+    (λ c κs. search needs)
+    (λ c κs. search needs)
+    (λ c κs. search needs)
+    (λ c κs. search needs)
+    (λ c κs. search needs)
+    (λ c κs. search needs)
+    residue-by-requires
+    returns)

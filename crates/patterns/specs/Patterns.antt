@@ -1,0 +1,48 @@
+-- Patterns of binary32 as logarithms. Definitions only.
+use mathlib.Core.Path.{_≡_}
+use mathlib.Core.Bool.{Bool, true, false, cond}
+use Prim.Native.Nat.{ℕ, zero, suc, min, max, _+_, _*_, _/_, _^_, _<_}
+use lib.Ieee.{binary32, binary64, ofBits, ofInt}
+use lib.IntN.{ℤ, pos, negsuc, natAbs, _-ℤ_}
+use Rattle.designs.specs.Codes.{code}
+use Rattle.designs.specs.Designs.{unlessZero}
+use Rattle.designs.specs.Signs.{negative, withSign}
+
+-- The pattern with a sign and the logarithm c / 2^23: with c = 2^23 × Q + R the exponent field is 127 + Q and the fraction field R, and
+-- the number is (2^23 + R) × 2^Q / 2^23.
+abbrev pub logPattern : Bool → ℕ → ℕ
+logPattern minus c = cond minus (2 ^ 31) 0 + (127 * 2 ^ 23 + c)
+
+-- The pattern of an integer of at most 24 bits.
+unfoldable pub patternOf : ℤ → ℕ
+unfolding code
+patternOf (pos zero) = 0
+patternOf (pos (suc n)) = logPattern false (code 23 (suc n))
+patternOf (negsuc n) = logPattern true (code 23 (suc n))
+
+-- A pattern stands for an integer that an i32 holds: read as a binary64, it is the float of that integer.
+pub record Stands (p : ℕ) (z : ℤ) : Type 0 where
+  pub float : ofBits binary32 p ≡ ofInt binary64 z
+  pub small : natAbs z < 2 ^ 31
+
+-- p, or 0 where z is 0.
+abbrev pub maskedBy : ℤ → ℕ → ℕ
+maskedBy z p = unlessZero (natAbs z) 1 p
+
+-- Masked by z, p stands for an integer y, and the difference fits an i32.
+pub record Less (z : ℤ) (p : ℕ) (y : ℤ) : Type 0 where
+  pub stands : Stands (maskedBy z p) y
+  pub small : natAbs (z -ℤ y) < 2 ^ 31
+
+-- The power of two that the exponent field of a number's pattern stands for, once h is added to the pattern; 0 for 0.
+abbrev pub fieldPower : ℕ → ℕ → ℕ
+fieldPower h zero = 0
+fieldPower h (suc n) = 2 ^ ((code 23 (suc n) + h) / 2 ^ 23)
+
+-- An integer less that power, with its sign.
+abbrev pub lessPower : ℕ → ℤ → ℤ
+lessPower h z = z -ℤ withSign (negative z) (fieldPower h (natAbs z))
+
+-- The kept bits that a row takes: at least 1 and at most 15. A setting outside acts as the nearest of these.
+abbrev pub clamped : ℕ → ℕ
+clamped t = max 1 (min t 15)

@@ -1,0 +1,28 @@
+// Numbers less a power of two, which the exponent field of a pattern alone stands for.
+ghost use mathlib.Core.Path.{_≡_};
+ghost use Prim.Native.Nat.{_^_, _≤_};
+ghost use lib.IntN.{natAbs};
+ghost use Rattle.patterns.specs.Patterns.{lessPower};
+use crate::logs::pattern_of;
+use crate::logs::whole;
+
+// The sign and the exponent field.
+const POWERS: u32 = 511 << 23;
+
+// Half of the lowest exponent's place.
+const HALF: u32 = 1 << 22;
+
+// x less the power of two in the exponent field of its pattern, with its sign. What is added to the pattern before carries into the field.
+pub(crate) fn less_power(x: i32, carry: u32) -> i32
+    requires { ⌜ (natAbs x ≤ 2 ^ 15) × (carry ≤ 2 ^ 22) ⌝ }
+    ensures { λ r. ⌜ r ≡ lessPower carry x ⌝ }
+{
+    x - whole((pattern_of(x) + carry) & POWERS)
+}
+
+// x less the power of two that design 2 takes for it.
+pub(crate) fn offset(x: i16) -> i32
+    ensures { λ r. ⌜ r ≡ lessPower (2 ^ 22) x ⌝ }
+{
+    less_power(x as i32, HALF)
+}

@@ -1,0 +1,98 @@
+-- A row that has been reached whole: the totals over all its pairs are the sums of its report, and the places hold its residues, with
+-- what stood there behind them. A total grows pair by pair as the sum over a list does, and two lists with the same places are one.
+-- Assumes nothing.
+use mathlib.Core.Path.{_≡_, refl, sym, ap, ap₂, _∙_}
+use Prim.Native.Nat.{ℕ, zero, suc, _+_, _-_, _≤_, _<_}
+use native.Mathlib.Nat.{le-refl}
+use native.Mathlib.Numerals.{add-one}
+use native.Mathlib.Omega.{arith}
+use mathlib.Core.List.{List, [], _∷_, _++_}
+use lib.IntN.{ℤ, pos, negℤ, natAbs, _+ℤ_, _-ℤ_, _*ℤ_, +ℤ-assoc, +ℤ-idl, +ℤ-invr, negℤ-+ℤ, negℤ-negℤ}
+use lib.ListN.{length, take, drop, getD, length-append, length-drop, List·getD-append}
+use lib.Seq.{ext-getD, getD-append-add, getD-drop, take-all}
+use Rattle.designs.specs.Designs.{Design}
+use Rattle.designs.specs.Rows.{Report, emptyReport, nonzero, pairwise, report, residues, sumℤ, sum}
+use Rattle.designs.specs.Signs.{residue, signedProduct}
+use Rattle.designs.proofs.Cases.{either-lt}
+use Rattle.designs.proofs.Prefixes.{pairwise-length, sumℤ-next, sum-next}
+use Rattle.designs.proofs.RowSums.{sum-minus}
+use Rattle.rows.specs.Answers.{reportOf}
+use Rattle.rows.specs.Blocks.{ofPair, total, count, Reached, ReachedBy}
+use Rattle.rows.specs.declared.RowReport.{RowReport}
+use Rattle.rows.proofs.Turn.{equally, nothing}
+
+-- a report of zeros is that of no pairs
+pub begun : (z : ℕ → ℤ) (ws fs before : List ℤ) (r : RowReport) → reportOf r ≡ emptyReport → ReachedBy z ws fs before before 0 r
+begun z ws fs before r e =
+    let t = ap (λ (x : Report). x .trueSum) e in
+    let f = ap (λ (x : Report). x .error) e in
+    record {
+      score = ap (λ (x : Report). x .score) e ∙ sym (ap₂ _-ℤ_ t f);
+      sums = equally refl refl t f (ap (λ (x : Report). x .magnitudeSum) e) (ap (λ (x : Report). x .nonzeroPairs) e) (nothing z ws fs before);
+    }
+
+-- totals and sums
+total-is : (q : ℤ → ℤ → ℤ) (ws fs : List ℤ) (n : ℕ) → n ≤ length ws → n ≤ length fs → total (ofPair q ws fs) n ≡ sumℤ (pairwise q (take n ws) (take n fs))
+unfolding total pairwise sumℤ
+total-is q ws fs zero h g = refl
+total-is q ws fs (suc n) h g =
+    ap (λ (y : ℤ). y +ℤ ofPair q ws fs n) (total-is q ws fs n (omega arith) (omega arith)) ∙ (rw (add-one n) at (sym (sumℤ-next ws fs n h g q)))
+
+count-is : (q : ℤ → ℤ → ℕ) (ws fs : List ℤ) (n : ℕ) → n ≤ length ws → n ≤ length fs → count (ofPair q ws fs) n ≡ sum (pairwise q (take n ws) (take n fs))
+unfolding count pairwise sum
+count-is q ws fs zero h g = refl
+count-is q ws fs (suc n) h g =
+    ap (λ (y : ℕ). y + ofPair q ws fs n) (count-is q ws fs n (omega arith) (omega arith)) ∙ (rw (add-one n) at (sym (sum-next ws fs n h g q)))
+
+-- what a difference leaves
+left : (x y : ℤ) → x -ℤ (x -ℤ y) ≡ y
+left x y =
+    ap (λ (z : ℤ). x +ℤ z) (negℤ-+ℤ x (negℤ y)) ∙ sym (+ℤ-assoc x (negℤ x) (negℤ (negℤ y))) ∙ ap (λ (z : ℤ). z +ℤ negℤ (negℤ y)) (+ℤ-invr x)
+    ∙ +ℤ-idl (negℤ (negℤ y)) ∙ negℤ-negℤ y
+
+-- places of pairs
+pair-at : {X : Type 0} (q : ℤ → ℤ → X) (d : X) (ws fs : List ℤ) (k : ℕ) → k < length ws → k < length fs → getD (pairwise q ws fs) k d ≡ ofPair q ws fs k
+unfolding pairwise
+pair-at q d [] fs k h g = absurd (omega arith)
+pair-at q d (w ∷ ws) [] k h g = absurd (omega arith)
+pair-at q d (w ∷ ws) (x ∷ fs) zero h g = refl
+pair-at q d (w ∷ ws) (x ∷ fs) (suc k) h g = pair-at q d ws fs k (omega arith) (omega arith)
+
+module _ (ws fs : List ℤ) (same : length ws ≡ length fs) where
+  -- sums over the whole lists
+  pub wholeℤ : (q : ℤ → ℤ → ℤ) → total (ofPair q ws fs) (length ws) ≡ sumℤ (pairwise q ws fs)
+  wholeℤ q =
+      total-is q ws fs (length ws) (le-refl _) (omega arith)
+      ∙ ap₂ (λ (us vs : List ℤ). sumℤ (pairwise q us vs)) (take-all (length ws) ws (le-refl _)) (take-all (length ws) fs (omega arith))
+
+  pub wholeℕ : (q : ℤ → ℤ → ℕ) → count (ofPair q ws fs) (length ws) ≡ sum (pairwise q ws fs)
+  wholeℕ q =
+      count-is q ws fs (length ws) (le-refl _) (omega arith)
+      ∙ ap₂ (λ (us vs : List ℤ). sum (pairwise q us vs)) (take-all (length ws) ws (le-refl _)) (take-all (length ws) fs (omega arith))
+
+  pub residues-length : (D : Design) → length (residues D ws fs) ≡ length ws
+  unfolding residues
+  residues-length D =
+      ap₂ (λ (us vs : List ℤ). length (pairwise (residue D) us vs)) (sym (take-all (length ws) ws (le-refl _))) (sym (take-all (length ws) fs (omega arith)))
+      ∙ pairwise-length (residue D) (length ws) ws fs (le-refl _) (omega arith)
+
+module _ (D : Design) (ws fs before after : List ℤ) (r : RowReport) (same : length ws ≡ length fs) (room : length ws ≤ length before)
+    (all : ReachedBy (ofPair (residue D) ws fs) ws fs before after (length ws) r) where
+  pub whole-report : reportOf r ≡ report D ws fs
+  unfolding report residue
+  whole-report =
+      let t = all .sums .true-is ∙ wholeℤ ws fs same _*ℤ_ in
+      let e = all .sums .error-is ∙ wholeℤ ws fs same (residue D) ∙ sym (sum-minus _*ℤ_ (signedProduct D) ws fs) in
+      rw (all .score ∙ ap₂ _-ℤ_ t e ∙ left (sumℤ (pairwise _*ℤ_ ws fs)) (sumℤ (pairwise (signedProduct D) ws fs)), t, e, all .sums .magnitude-is ∙ wholeℕ ws fs same (λ w x. natAbs (w *ℤ x)), all .sums .pairs-is ∙ wholeℕ ws fs same nonzero)
+
+  pub whole-residues : after ≡ residues D ws fs ++ drop (length ws) before
+  unfolding residues
+  whole-residues =
+      let zs = residues D ws fs in
+      let rest = drop (length ws) before in
+      ext-getD (pos 0) after (zs ++ rest) (omega (arith, all .sums .long, length-append zs rest, residues-length ws fs same D, length-drop (length ws) before))
+      (λ k h. either-lt k (length ws)
+      (λ b. all .sums .held k b ∙ sym (List·getD-append zs rest (pos 0) k (omega (arith, residues-length ws fs same D)) ∙ pair-at (residue D) (pos 0) ws fs k b (omega arith)))
+      (λ b. all .sums .later k b
+      ∙ sym (ap (λ (i : ℕ). getD (zs ++ rest) i (pos 0)) (omega (arith, residues-length ws fs same D)) ∙ getD-append-add zs rest (k - length ws) (pos 0) ∙ getD-drop (length ws) before (k - length ws) (pos 0)
+      ∙ ap (λ (i : ℕ). getD before i (pos 0)) (omega arith))))
