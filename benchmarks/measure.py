@@ -20,8 +20,12 @@ C_ROWS = {
     'c_each_small': ['-Os'],
     'c_one_small': ['-Os', '-DONE_LOOP'],
 }
+# What is possible: by patterns, and with every instruction of the machine that measures. Their times are taken, and nothing else.
+BEST_ROWS = {f'{name}_native': [*C_ROWS[name], '-march=native'] for name in ('c_each', 'c_each_masked', 'c_one', 'c_one_masked')}
+BEST_ROWS |= {'c_patterns': ['-O3', '-DPATTERNS'], 'c_patterns_native': ['-O3', '-DPATTERNS', '-march=native']}
 RUST_ROWS = {'rust_each': [], 'rust_one_loop': ['--cfg=one_loop']}
 ROWS = [OURS, *C_ROWS, *RUST_ROWS]
+ALL_ROWS = [*ROWS, *BEST_ROWS]
 
 
 def output(command, **options):
@@ -38,13 +42,13 @@ def output(command, **options):
 def build(archive, folder):
     """Compiles the rows written by hand and the three programs into `folder`."""
     objects = []
-    for name, flags in C_ROWS.items():
+    for name, flags in (C_ROWS | BEST_ROWS).items():
         objects.append(folder / f'{name}.o')
         output([*C, *flags, f'-DSCORE_ROW={name}', '-c', HERE / 'row.c', '-o', objects[-1]])
     for name, flags in RUST_ROWS.items():
         objects.append(folder / f'{name}.o')
         output([*RUST, *flags, HERE / 'row.rs', '-o', objects[-1]])
-    names = ' '.join(f'X({name})' for name in ROWS)
+    names = ' '.join(f'X({name})' for name in ALL_ROWS)
     output([*C, '-O2', f'-DIMPLEMENTATIONS={names}', HERE / 'rows.c', *objects, archive, '-o', folder / 'rows'])
     for program in ('operations', 'stack'):
         output([*C, '-O2', HERE / f'{program}.c', archive, '-o', folder / program])
@@ -70,6 +74,16 @@ def counts(program, functions, lines):
     if missing:
         raise SystemExit(f'benchmarks: callgrind counted nothing for: {missing[0]}')
     return found, printed
+
+
+def times(program, calls):
+    """Nanoseconds of a call, by its design, setting and pairs and by the name of the implementation."""
+    printed = output([program, 'time'], input=''.join(f'{" ".join(map(str, call))}\n' for call in calls))
+    found = {}
+    for line in printed.splitlines():
+        call, name, taken = line.split('\t')
+        found[(*map(int, call.split()), name)] = float(taken)
+    return found
 
 
 class Code:

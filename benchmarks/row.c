@@ -6,6 +6,8 @@
  * Two choices are open, and run.py measures all four, so that none of them is picked for the comparison:
  *   ONE_LOOP      one loop that asks for the design at each pair; otherwise a loop for each design, faster and larger
  *   MASKED_SIGNS  signs by masks; otherwise by a branch, which is fewer instructions and is predicted wrongly where signs vary
+ * And design 1 can be had by other means, as a measure of what is possible:
+ *   PATTERNS      by binary32 patterns, which are logarithms, as the library has it; it does not shift and add
  *
  * The rest is what gave the fewest instructions at gcc -O3. These were measured and gave more, for a pair where each design has
  * its loop: Mitchell with its leading ones cleared and its sum compared (1 to 11 more); the nearest power by a bit or a condition
@@ -15,6 +17,7 @@
  * branch on the carry of the fractions gave 1 less, and at every other pair one more branch that is predicted wrongly.
  */
 #include <stdlib.h>
+#include <string.h>
 
 #include "highvane.h"
 
@@ -128,6 +131,34 @@ static inline __attribute__((always_inline)) highvane_report accumulate(uint32_t
     return (highvane_report){score, true_sum, true_sum - score, magnitude_sum, pairs - zero_pairs, HIGHVANE_ACCEPTED};
 }
 
+#ifdef PATTERNS
+static inline uint32_t pattern_of(int32_t x) {
+    float value = (float)x;
+    uint32_t pattern;
+    memcpy(&pattern, &value, sizeof pattern);
+    return pattern;
+}
+
+/* The patterns of two numbers, added, less that of 1, are the pattern of design 1's product, with its sign. */
+static highvane_report accumulate_patterns(const int16_t *weights, const int16_t *frame, size_t pairs, int64_t *residues) {
+    int64_t true_sum = 0, error = 0;
+    uint64_t magnitude_sum = 0, nonzero_pairs = 0;
+    for (size_t i = 0; i < pairs; i++) {
+        int32_t w = weights[i], x = frame[i], truth = w * x;
+        uint32_t sum = pattern_of(w) + pattern_of(x) - pattern_of(1), masked = truth == 0 ? 0 : sum;
+        float product;
+        memcpy(&product, &masked, sizeof product);
+        int32_t residue = truth - (int32_t)product;
+        true_sum += truth;
+        error += residue;
+        magnitude_sum += (uint32_t)abs(truth);
+        nonzero_pairs += truth != 0;
+        residues[i] = residue;
+    }
+    return (highvane_report){true_sum - error, true_sum, error, magnitude_sum, nonzero_pairs, HIGHVANE_ACCEPTED};
+}
+#endif
+
 static inline uint32_t refusal_of(uint32_t design, uint32_t setting, size_t weights_len, size_t frame_len, size_t residues_len) {
     if (design - 1 > 3) return HIGHVANE_UNKNOWN_DESIGN;
     if (design < HIGHVANE_STAGED ? setting != 0 : setting - 1 > 18 - design) return HIGHVANE_SETTING_OUT_OF_RANGE;
@@ -141,6 +172,9 @@ highvane_report SCORE_ROW(uint32_t design, uint32_t setting, const int16_t *weig
                           size_t frame_len, int64_t *residues, size_t residues_len) {
     uint32_t refusal = refusal_of(design, setting, weights_len, frame_len, residues_len);
     if (refusal) return (highvane_report){.refusal = refusal};
+#ifdef PATTERNS
+    if (design == HIGHVANE_MITCHELL) return accumulate_patterns(weights, frame, weights_len, residues);
+#endif
 #ifdef ONE_LOOP
     return accumulate(design, setting, weights, frame, weights_len, residues);
 #else

@@ -1,5 +1,5 @@
 """The tables of scored rows, each as its head and its lines, and where there are several, each with its title first."""
-from measure import OURS, ROWS, Code
+from measure import BEST_ROWS, C_ROWS, OURS, ROWS, Code, times
 
 PAIRS = 4096
 DESIGNS = {(1, 0): '1', (2, 0): '2', (3, 1): '3, s = 1', (3, 2): '3, s = 2', (3, 4): '3, s = 4', (3, 16): '3, s = 16',
@@ -47,6 +47,32 @@ def pair_tables(rows):
             body.append([label, *(number(figures[name]) for name in COLUMNS), *(f'{figures[OURS] / few:.2f}' for few in fewest)])
         tables.append((title, ['design', *COLUMNS.values(), 'ours / masked', 'ours / fewest'], body))
     return tables
+
+
+def time_tables(program):
+    """What rows take in nanoseconds, and as ratios to C: to the best written by hand, and to the best with all that the machine has."""
+    stages = {(3, s): f'3, s = {s}' for s in range(1, 17)}
+    designs = {key: label for key, label in DESIGNS.items() if key[0] < 3} | stages
+    designs |= {key: label for key, label in DESIGNS.items() if key[0] > 3}
+    natives = [name for name in BEST_ROWS if name.endswith('_native') and 'patterns' not in name]
+    patterns = ['c_patterns', 'c_patterns_native']
+    found = times(program, [(*key, pairs) for key in designs for pairs in (1, 8, PAIRS)])
+
+    def of(key, pairs, names):
+        return min(found[(*key, pairs, name)] for name in names)
+
+    long, short = [], []
+    for key, label in designs.items():
+        ours, best, native = (of(key, PAIRS, names) / PAIRS for names in ([OURS], C_ROWS, natives))
+        by_patterns = [f'{of(key, PAIRS, [name]) / PAIRS:.2f}' if key[0] == 1 else '' for name in patterns]
+        long.append([label, f'{ours:.2f}', f'{best:.2f}', f'{ours / best:.2f}', f'{native:.2f}', f'{ours / native:.2f}', *by_patterns])
+        cells = []
+        for pairs in (1, 8):
+            ours, best = (of(key, pairs, names) for names in ([OURS], C_ROWS))
+            cells += [f'{ours:.1f}', f'{best:.1f}', f'{ours / best:.2f}']
+        short.append([label, *cells])
+    return ((['design', 'ours', 'best C', 'ours / best C', 'best C, native', 'ours / native', 'patterns in C', 'patterns, native'], long),
+            (['design', 'ours, 1 pair', 'best C', 'ours / best C', 'ours, 8 pairs', 'best C', 'ours / best C'], short))
 
 
 def wrong_table(rows):

@@ -3,11 +3,13 @@
  *
  *   rows check   compares all implementations on seeded rows, on boundary numbers and on refusals, and prints how many calls and
  *                pairs it compared, and how many of 4,096 pairs of small numbers hold a 0
+ *   rows time    reads lines "design setting pairs", and for each prints what a call of each implementation takes, in nanoseconds
  *   rows         reads lines "implementation data design setting weights frame places" (the last three are lengths), and for each
  *                makes one call and has callgrind write the instructions of that call under the line as its name
  */
 #include <stdio.h>
 #include <stdlib.h>
+#include <time.h>
 #include <valgrind/callgrind.h>
 
 #include "highvane.h"
@@ -29,7 +31,7 @@ static const struct {
 #undef X
 };
 
-enum { COUNT = sizeof implementations / sizeof *implementations, PAIRS = HIGHVANE_PAIRS_MAX };
+enum { COUNT = sizeof implementations / sizeof *implementations, PAIRS = HIGHVANE_PAIRS_MAX, ROUNDS = 301 };
 
 /* one pair more than a row may have, so that the refusal can be asked for */
 static int16_t weights[PAIRS + 1], frame[PAIRS + 1];
@@ -132,15 +134,56 @@ static void measure(const char *line) {
     exit(1);
 }
 
+static double nanoseconds(void) {
+    struct timespec at;
+    clock_gettime(CLOCK_MONOTONIC, &at);
+    return 1e9 * (double)at.tv_sec + (double)at.tv_nsec;
+}
+
+static int by_size(const void *a, const void *b) {
+    double x = *(const double *)a, y = *(const double *)b;
+    return (x > y) - (x < y);
+}
+
+/* The median of ROUNDS, in each of which all implementations take their turn. Each turn has uniform numbers that were never seen before,
+   since a branch predictor learns a row that comes again; short rows are many calls on parts of them. */
+static void take_times(const char *line) {
+    static double taken[COUNT][ROUNDS];
+    uint32_t design, setting;
+    size_t pairs;
+    if (sscanf(line, "%u %u %zu", &design, &setting, &pairs) != 3 || pairs < 1 || pairs > PAIRS) {
+        fprintf(stderr, "rows: not a line that can be timed: %s\n", line);
+        exit(1);
+    }
+    size_t calls_each = PAIRS / pairs;
+    for (int round = 0; round < ROUNDS; round++)
+        for (int turn = 0; turn < COUNT; turn++) {
+            int i = (turn + round) % COUNT;
+            for (size_t k = 0; k < PAIRS; k++) {
+                weights[k] = (int16_t)seeded();
+                frame[k] = (int16_t)seeded();
+            }
+            double start = nanoseconds();
+            for (size_t at = 0; at + pairs <= PAIRS; at += pairs)
+                implementations[i].call(design, setting, weights + at, pairs, frame + at, pairs, residues[i] + at, pairs);
+            taken[i][round] = (nanoseconds() - start) / (double)calls_each;
+        }
+    for (int i = 0; i < COUNT; i++) {
+        qsort(taken[i], ROUNDS, sizeof taken[i][0], by_size);
+        printf("%s\t%s\t%f\n", line, implementations[i].name, taken[i][ROUNDS / 2]);
+    }
+}
+
 int main(int argc, char **argv) {
     char line[256];
+    void (*answer)(const char *line) = argc == 2 && !strcmp(argv[1], "time") ? take_times : measure;
     if (argc == 2 && !strcmp(argv[1], "check")) {
         check();
         return 0;
     }
     while (fgets(line, sizeof line, stdin)) {
         line[strcspn(line, "\n")] = 0;
-        measure(line);
+        answer(line);
     }
     return 0;
 }

@@ -1,8 +1,9 @@
 #!/usr/bin/env python3
 """Print the tables of docs/PERFORMANCE.md that are measured on the compiled archive, as Markdown.
 
-Instructions are callgrind's, which repeat exactly; no time is measured. Every implementation is first compared with the library
-on the reports and the residues of many rows, so that nothing is measured that does not do the same work.
+Times of rows are medians over rows that no implementation has seen, in turns in one run. Instructions are callgrind's, which repeat
+exactly. Every implementation is first compared with the library on the reports and the residues of many rows, so that nothing is
+measured that does not do the same work.
 
 Usage: python3 benchmarks/run.py [ARCHIVE]     (the default is target/staticlib/libcapi.a, which rt staticlib capi writes)
 """
@@ -12,9 +13,9 @@ from pathlib import Path
 
 sys.dont_write_bytecode = True  # nothing is to appear in the repository
 
-from measure import HERE, ROWS, build, counts, output  # noqa: E402
+from measure import ALL_ROWS, HERE, ROWS, build, counts, output  # noqa: E402
 from row_tables import (DESIGNS, Rows, code_table, growth_tables, number, pair_tables, refusal_table,  # noqa: E402
-                        stage_table, wrong_table)
+                        stage_table, time_tables, wrong_table)
 
 OPERATIONS = {'unsigned': 'product_unsigned', 'signed': 'product_signed', 'single': 'single_product', 'table': 'table_product',
               'scale': 'scale', 'row_refusal': 'row_refusal', 'transcript': 'transcript'}
@@ -65,7 +66,13 @@ def print_tables(rows, folder, agreed):
     versions = [output([tool, '--version']).splitlines()[0] for tool in ('gcc', 'rustc', 'valgrind')]
     calls, pairs, zeros = (number(int(word)) for word in agreed.split())
     print(f'Measured with {", ".join(versions)}.')
-    print(f'All {len(ROWS)} implementations of a row gave the same reports and residues on {calls} calls with {pairs} pairs.\n')
+    print(f'All {len(ALL_ROWS)} implementations of a row gave the same reports and residues on {calls} calls with {pairs} pairs.\n')
+    long, short = time_tables(folder / 'rows')
+    print('### Scoring a row: nanoseconds a pair, rows of 4,096 uniform pairs, and nanoseconds a call for short rows\n')
+    print('`best C`: the fastest of the C rows that shift and add, at gcc -O3 and -Os for baseline x86-64; `native`: at gcc -O3 with')
+    print('-march=native; `patterns`: design 1 by binary32 patterns in C at gcc -O3.\n')
+    table(*long)
+    table(*short)
     print('### Scoring a row: instructions a pair, rows of 4,096\n')
     print('`each`: gcc -O3, a loop for each design; `one`: one loop for all; `masked`: signs by masks and not by a branch;')
     print('`Os`: gcc -Os; `Rust`: rustc -O. `ours / masked` is to the fewest at gcc -O3 without a branch on signs, and')

@@ -4,10 +4,10 @@ use mathlib.Core.Path.{_≡_, refl, sym, ap₂, _∙_}
 use Prim.Native.Nat.{ℕ, zero, suc, _^_, _≤_, _<_}
 use native.Mathlib.Nat.{mul-le-mul}
 use native.Mathlib.Omega.{arith}
-use mathlib.Core.Bool.{Bool, true, false, false≢true}
-use lib.Dec.{T, leb·suc-zero}
+use mathlib.Core.Bool.{true, false, false≢true}
+use lib.Dec.{T}
 use lib.IntN.{ℤ, pos, negsuc, negℤ, natAbs, _*ℤ_}
-use lib.Signed.{ltZ, mag, natAbs-le, nonNeg}
+use lib.Signed.{mag, natAbs-le, nonNeg}
 use mir.Syntax.{w16, w32}
 use mir.Val.{Fits, SFits, toZ, ofZ}
 use mir.Facts.{toZ-ofZ, sfits-widen}
@@ -30,9 +30,6 @@ sized (pos n) h = record { sfits = h }
 sized (negsuc n) h = record { sfits = omega arith }
 
 -- a result that is equal to a number that fits
-pub fits-as : {x y : ℤ} → x ≡ y → SFits w32 y → SFits w32 x
-fits-as e h = rw e h
-
 pub read-as : {x y : ℤ} → x ≡ y → SFits w32 y → toZ w32 (ofZ w32 x) ≡ y
 read-as e h = rw e (toZ-ofZ h)
 
@@ -60,14 +57,6 @@ pub masked-some : (z : ℤ) (p : ℕ) → (ofZ w32 z ≡ 0 → ⊥) → p ≡ ma
 masked-some (pos zero) p e = absurd (e refl)
 masked-some (pos (suc n)) p e = refl
 masked-some (negsuc n) p e = refl
-
--- the machine's sign test
-pub tested : {t : Bool} (x : ℤ) → SFits w32 x → ltZ (toZ w32 (ofZ w32 x)) (pos 0) ≡ t → negative x ≡ t
-tested x h e = sym (below x) ∙ (rw (toZ-ofZ h) at e)
-  where
-    below : (x : ℤ) → ltZ x (pos 0) ≡ negative x
-    below (pos n) = leb·suc-zero n
-    below (negsuc n) = refl
 
 -- the size of a number without its sign is a machine number
 pub plain : (x : ℤ) → negative x ≡ false → natAbs x < 2 ^ 31 → T (nonNeg x) × Fits w32 (natAbs x)

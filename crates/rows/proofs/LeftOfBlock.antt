@@ -1,16 +1,13 @@
--- Design 3 on a block: what the stages leave of a part of a row's numbers, place by place, multiplied, is the residues of its pairs.
--- Assumes nothing.
-use mathlib.Core.Path.{_≡_, sym, ap, ap₂, _∙_}
+-- Design 3 on a block: each place of it holds what the stages leave of one number of the row. Assumes nothing.
+use mathlib.Core.Path.{_≡_, ap, _∙_}
 use Prim.Native.Nat.{ℕ, min, _+_, _-_, _^_, _≤_, _<_}
 use native.Mathlib.Nat.{add-sub-cancel-left, min-eq-left}
 use native.Mathlib.Omega.{arith}
 use mathlib.Core.List.{List}
-use lib.IntN.{ℤ, pos, natAbs, _*ℤ_}
-use lib.ListN.{length, getD, take, drop, length-take, length-drop}
+use lib.IntN.{ℤ, pos, natAbs}
+use lib.ListN.{length, getD, take, drop, length-drop}
 use lib.Seq.{getD-take, getD-drop, length-take-le}
-use Rattle.designs.specs.Designs.{staged}
-use Rattle.designs.specs.Signs.{residue, leftℤ}
-use Rattle.designs.proofs.SignedLeft.{staged-left}
+use Rattle.designs.specs.Signs.{leftℤ}
 use Rattle.patterns.specs.Blocks.{Left}
 
 -- the part of a row that a block takes, as the code lends it

@@ -1,4 +1,3 @@
-pub mod Places
 pub mod LeftOfBlock
 pub mod Turn
 pub mod Whole

@@ -1,7 +1,6 @@
 -- One pair of 16-bit numbers. Its true product has at most 31 bits and so has the design's product of the sizes, which are at most
 -- 2^15; hence its residue, their difference with one sign, has at most 31 bits too. Assumes nothing.
 use Prim.Native.Nat.{ℕ, _*_, _^_, _≤_}
-use native.Mathlib.Nat.{mul-le-mul}
 use native.Mathlib.Omega.{arith}
 use mathlib.Core.Bool.{Bool}
 use lib.Ieee.{unlike}
@@ -13,7 +12,7 @@ use Rattle.designs.specs.Signs.{negative, signedProduct, residue}
 use Rattle.designs.proofs.Distance.{dist, within-dist}
 use Rattle.designs.proofs.Sizes.{sign-dist, size-sign, size-true, true-is}
 use Rattle.designs.proofs.Widths.{size-lt}
-use Rattle.signs.proofs.Integers.{size16}
+use Rattle.patterns.proofs.Integers.{size16, true-size}
 
 -- the largest size of a product or a residue
 abbrev pub most : ℕ
@@ -32,15 +31,12 @@ unfolding signedProduct residue
 bounds D w x k hw hx =
     record {
       product-size = rw (size-sign minus (product D (natAbs w) (natAbs x))) P-size;
-      true-size = rw (size-true w x) T-size;
-      residue-size = rw (true-is w x, sign-dist minus (natAbs w * natAbs x) (product D (natAbs w) (natAbs x))) (apart most _ _ (omega (arith, T-size)) P-size);
+      true-size = true-size hw hx;
+      residue-size = rw (true-is w x, sign-dist minus (natAbs w * natAbs x) (product D (natAbs w) (natAbs x))) (apart most _ _ (omega (arith, size-true w x, true-size hw hx)) P-size);
     }
   where
     minus : Bool
     minus = unlike (negative w) (negative x)
 
     P-size : product D (natAbs w) (natAbs x) ≤ most
-    P-size = omega (arith, size-lt D k 15 (natAbs w) (natAbs x) (size16 w hw) (size16 x hx))
-
-    T-size : natAbs w * natAbs x ≤ 2 ^ 30
-    T-size = mul-le-mul (size16 w hw) (size16 x hx)
+    P-size = omega (arith, size-lt D k 15 (natAbs w) (natAbs x) (size16 hw) (size16 hx))

@@ -1,5 +1,5 @@
 -- The outcome of a row. A refused row promises nothing of a report and leaves every place; of an accepted one no test applied, so that
--- its setting is one that the kernels serve, and its report is the definition's, of which the third demand holds. Assumes nothing.
+-- its kept bits are ones that the loops serve, and its report is the definition's, of which the third demand holds. Assumes nothing.
 use mathlib.Core.Path.{_≡_, refl, sym, ap, _∙_, subst}
 use Prim.Native.Nat.{ℕ, zero, suc, max, _≤_}
 use native.Mathlib.Nat.{max-eq-right, min-eq-left}

@@ -1,11 +1,11 @@
 -- The sums of a row of 16-bit numbers are small: a total over n pairs is at most n times what bounds each, and at most 4,096 pairs of at
 -- most 2^31 − 1 each stay below 2^43. Assumes nothing.
-use mathlib.Core.Path.{_≡_, sym, ap, _∙_}
-use Prim.Native.Nat.{ℕ, zero, suc, _+_, _*_, _^_, _≤_, _<_}
+use mathlib.Core.Path.{_≡_, ap}
+use Prim.Native.Nat.{ℕ, zero, suc, _*_, _^_, _≤_, _<_}
 use native.Mathlib.Nat.{suc-mul}
 use native.Mathlib.Omega.{arith}
 use mathlib.Core.List.{List}
-use lib.IntN.{ℤ, pos, natAbs, _+ℤ_, _*ℤ_}
+use lib.IntN.{ℤ, pos, natAbs, _*ℤ_}
 use lib.ListN.{length, getD}
 use Rattle.designs.specs.Designs.{Design, KeepsBit}
 use Rattle.designs.specs.Rows.{report}

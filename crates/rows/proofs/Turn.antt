@@ -6,14 +6,14 @@ use native.Mathlib.Numerals.{add-one}
 use native.Mathlib.Omega.{arith}
 use mathlib.Core.List.{List}
 use lib.IntN.{ℤ, pos, natAbs, _+ℤ_, _*ℤ_}
-use lib.ListN.{length, length-set, getD, set}
-use lib.Seq.{getD-set-same, getD-set-other}
+use lib.ListN.{length, set}
 use Rattle.designs.specs.Designs.{unlessZero}
 use Rattle.designs.specs.Rows.{nonzero}
 use Rattle.designs.proofs.Cases.{either-lt}
 use Rattle.designs.proofs.Sizes.{size-add}
 use Rattle.rows.specs.Answers.{Fits16}
-use Rattle.rows.specs.Blocks.{ofPair, total, count, Holds, Reached}
+use Rattle.patterns.proofs.Blocks.{next-done, none-done}
+use Rattle.rows.specs.Blocks.{ofPair, total, count, Reached}
 
 total-next : (f : ℕ → ℤ) (n : ℕ) → total f (n + 1) ≡ total f n +ℤ f n
 unfolding total
@@ -45,9 +45,7 @@ nothing z ws fs before =
       magnitude-size = omega arith;
       pairs-size = omega arith;
       fits = λ k h. absurd (omega arith);
-      held = λ k h. absurd (omega arith);
-      later = λ k h. refl;
-      long = refl;
+      places = none-done z before;
     }
 
 module _ {z : ℕ → ℤ} {ws fs before after : List ℤ} {i : ℕ} {t e : ℤ} {m n : ℕ} (so-far : Reached z ws fs before after i t e m n) where
@@ -66,15 +64,8 @@ module _ {z : ℕ → ℤ} {ws fs before after : List ℤ} {i : ℕ} {t e : ℤ}
         magnitude-size = omega (arith, ap natAbs ep, so-far .magnitude-size);
         pairs-size = omega (arith, so-far .pairs-size);
         fits = λ k g. either-lt k i (so-far .fits k) (λ b. let q : k ≡ i = omega arith in rw q hf);
-        held = held;
-        later = λ k h. getD-set-other after i k r (pos 0) (λ q. omega arith) ∙ so-far .later k (omega arith);
-        long = length-set after i r ∙ so-far .long;
+        places = next-done z i r (so-far .places) l er;
       }
-    where
-      held : Holds z (i + 1) (set after i r)
-      held k g =
-          either-lt k i (λ b. getD-set-other after i k r (pos 0) (λ q. omega arith) ∙ so-far .held k b)
-          (λ b. let q : k ≡ i = omega arith in rw q (getD-set-same after i r (pos 0) (omega (arith, so-far .long)) ∙ er))
 
 -- the same of numbers that are equal
 pub equally : {z : ℕ → ℤ} {ws fs before after after' : List ℤ} {i i' : ℕ} {t t' e e' : ℤ} {m m' n n' : ℕ}

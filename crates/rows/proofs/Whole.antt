@@ -17,7 +17,7 @@ use Rattle.designs.proofs.Cases.{either-lt}
 use Rattle.designs.proofs.Prefixes.{pairwise-length, sumℤ-next, sum-next}
 use Rattle.designs.proofs.RowSums.{sum-minus}
 use Rattle.rows.specs.Answers.{reportOf}
-use Rattle.rows.specs.Blocks.{ofPair, total, count, Reached, ReachedBy}
+use Rattle.rows.specs.Blocks.{ofPair, total, count, ReachedBy}
 use Rattle.rows.specs.declared.RowReport.{RowReport}
 use Rattle.rows.proofs.Turn.{equally, nothing}
 
@@ -90,9 +90,9 @@ module _ (D : Design) (ws fs before after : List ℤ) (r : RowReport) (same : le
   whole-residues =
       let zs = residues D ws fs in
       let rest = drop (length ws) before in
-      ext-getD (pos 0) after (zs ++ rest) (omega (arith, all .sums .long, length-append zs rest, residues-length ws fs same D, length-drop (length ws) before))
+      ext-getD (pos 0) after (zs ++ rest) (omega (arith, all .sums .places .size, length-append zs rest, residues-length ws fs same D, length-drop (length ws) before))
       (λ k h. either-lt k (length ws)
-      (λ b. all .sums .held k b ∙ sym (List·getD-append zs rest (pos 0) k (omega (arith, residues-length ws fs same D)) ∙ pair-at (residue D) (pos 0) ws fs k b (omega arith)))
-      (λ b. all .sums .later k b
+      (λ b. all .sums .places .first k b ∙ sym (List·getD-append zs rest (pos 0) k (omega (arith, residues-length ws fs same D)) ∙ pair-at (residue D) (pos 0) ws fs k b (omega arith)))
+      (λ b. all .sums .places .later k b
       ∙ sym (ap (λ (i : ℕ). getD (zs ++ rest) i (pos 0)) (omega (arith, residues-length ws fs same D)) ∙ getD-append-add zs rest (k - length ws) (pos 0) ∙ getD-drop (length ws) before (k - length ws) (pos 0)
       ∙ ap (λ (i : ℕ). getD before i (pos 0)) (omega arith))))

@@ -7,6 +7,7 @@ use lib.IntN.{ℤ, pos, natAbs, _+ℤ_, _-ℤ_, _*ℤ_}
 use lib.ListN.{length, getD}
 use Rattle.designs.specs.Designs.{Design, Keeps}
 use Rattle.designs.specs.Products.{designOf}
+use Rattle.patterns.specs.Blocks.{Done}
 use Rattle.patterns.specs.Patterns.{clamped}
 use Rattle.designs.specs.Rows.{nonzero}
 use Rattle.designs.specs.Signs.{residue}
@@ -70,9 +71,7 @@ pub record Reached (z : ℕ → ℤ) (ws fs before after : List ℤ) (n : ℕ) (
   pub magnitude-size : magnitudeSum ≤ n * 2 ^ 30
   pub pairs-size : nonzeroPairs ≤ n
   pub fits : (k : ℕ) → k < n → Fits16 ws fs k
-  pub held : Holds z n after
-  pub later : (k : ℕ) → n ≤ k → getD after k (pos 0) ≡ getD before k (pos 0)
-  pub long : length after ≡ length before
+  pub places : Done z n before after
 
 -- the same of a report
 pub record ReachedBy (z : ℕ → ℤ) (ws fs before after : List ℤ) (n : ℕ) (r : RowReport) : Type 0 where

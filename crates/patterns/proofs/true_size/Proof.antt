@@ -8,7 +8,8 @@ use mir.Syntax.{w32}
 use mir.Val.{SFits, toZ, ofZ}
 use mir.Facts.{toZ-ofZ}
 use Rattle.designs.proofs.Sizes.{size-neg}
-use Rattle.patterns.proofs.Integers.{plain, sized, tested, true-size, turned}
+use Rattle.signs.proofs.Integers.{tested}
+use Rattle.patterns.proofs.Integers.{plain, sized, true-size, turned}
 use Rattle.patterns.proofs.true_size.Statement.{statement}
 use Rattle.patterns.proofs.true_size.Tie as tie
 

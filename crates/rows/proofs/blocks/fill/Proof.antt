@@ -1,14 +1,10 @@
 -- `fill` goes by the number of the design, as `designOf` does. Assumes nothing.
 use borrow.Author.Needs.{needs}
-use mathlib.Core.Path.{_≡_, sym, ap, _∙_}
+use mathlib.Core.Path.{_≡_, ap, _∙_}
 use borrow.Author.Tests.{eq-eqb, ne-eqb}
-use mathlib.Core.Bool.{false}
-use lib.Dec.{eqb}
-use lib.IntN.{ℤ}
 use Prim.Native.Nat.{ℕ, _+_}
-use Rattle.designs.specs.Designs.{Keeps, truncated}
+use Rattle.designs.specs.Designs.{truncated}
 use Rattle.designs.specs.Signs.{residue}
-use Rattle.designs.specs.Products.{designOf}
 use Rattle.patterns.specs.Patterns.{clamped}
 use Rattle.rows.specs.Blocks.{ofPair}
 use Rattle.rows.proofs.blocks.fill.Statement.{statement}

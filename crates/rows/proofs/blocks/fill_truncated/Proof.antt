@@ -8,31 +8,32 @@ use Rattle.designs.specs.Designs.{truncated}
 use Rattle.designs.specs.Signs.{residue}
 use Rattle.patterns.specs.Patterns.{clamped}
 use Rattle.rows.specs.Blocks.{ofPair}
-use Rattle.rows.proofs.Places.{Filling, filling, one-more}
+use Rattle.patterns.specs.Blocks.{Done}
+use Rattle.patterns.proofs.Blocks.{next-done, none-done}
 use Rattle.rows.proofs.blocks.fill_truncated.Statement.{statement}
 use Rattle.rows.proofs.blocks.fill_truncated.Tie as tie
 
 abbrev Inv-loop : tie.InvT-loop
-Inv-loop kept weights frame from count block₀ j₀ block j = (j ≤ count) × Filling (λ k. ofPair (residue (truncated (clamped kept))) weights frame (from + k)) block₀ j block
+Inv-loop kept weights frame from count block₀ j₀ block j = (j ≤ count) × Done (λ k. ofPair (residue (truncated (clamped kept))) weights frame (from + k)) j block₀ block
 
 abbrev μ-loop : tie.MeasureT-loop
 μ-loop kept weights frame from count block₀ j₀ block j = count - j
 
 loop-holds : tie.Need-loop-holds Inv-loop μ-loop
-loop-holds c = (omega arith, filling _ _)
+loop-holds c = (omega arith, none-done _ _)
 
 loop-again : tie.Need-loop-again Inv-loop μ-loop
 loop-again c =
     let pair = c .before in
     let loop = pair .before .before .before .loop in (
       omega arith,
-      one-more _ _ (loop .j) (loop .block) (omega arith) (loop .inv .1)
+      next-done _ (loop .j) _ (loop .inv .1) (omega arith)
           (toZ-ofZ (record { sfits = c .truncated-residue .ok }) ∙ c .truncated-residue .ensures
           ∙ ap₂ (residue (truncated (clamped (pair .before .before .before .before .args .kept)))) (toZ-ofZ (record { sfits = pair .before .w .given })) (toZ-ofZ (record { sfits = pair .x .given }))),
     )
 
 returns : tie.Need-returns Inv-loop μ-loop
-returns c = λ k h. c .before .loop .inv .1 .holds k (omega arith)
+returns c = λ k h. c .before .loop .inv .1 .first k (omega arith)
 
 pub fill-truncated-spec : {M : Type 1} → statement M
 fill-truncated-spec =

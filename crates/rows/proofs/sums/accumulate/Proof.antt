@@ -2,12 +2,10 @@
 -- Assumes nothing.
 use borrow.Author.Needs.{needs}
 use mathlib.Core.Path.{_≡_, refl, _∙_, subst}
-use Prim.Native.Nat.{ℕ, _+_, _-_, _≤_, _<_}
+use Prim.Native.Nat.{ℕ, _+_, _-_, _≤_}
 use native.Mathlib.Omega.{arith}
-use mathlib.Core.List.{List}
 use lib.IntN.{ℤ}
 use lib.ListN.{length}
-use Rattle.designs.specs.Designs.{Design}
 use Rattle.designs.specs.Products.{designOf}
 use Rattle.designs.specs.Signs.{residue}
 use Rattle.rows.specs.Blocks.{Addable, Fillable, ofPair, ReachedBy}
@@ -96,7 +94,7 @@ loop-again c =
     (inside (filled .before), block-long filled, c .before .add .ensures _ _ (addable filled))
 
 same-length : tie.Need-same-length Inv-loop μ-loop
-same-length c = c .before .loop .inv .2 .sums .long
+same-length c = c .before .loop .inv .2 .sums .places .size
 
 returns : tie.Need-returns Inv-loop μ-loop
 returns c =

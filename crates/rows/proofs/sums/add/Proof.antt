@@ -2,22 +2,22 @@
 -- Assumes nothing.
 use borrow.Author.Needs.{needs}
 use mathlib.Core.Path.{_≡_, refl, sym, ap, ap₂, _∙_}
-use Prim.Native.Nat.{ℕ, _+_, _-_, _^_, _≤_, _<_}
+use Prim.Native.Nat.{ℕ, _+_, _-_, _≤_}
 use native.Mathlib.Nat.{add-zero, add-assoc}
 use native.Mathlib.Omega.{arith}
 use mathlib.Core.List.{List}
-use lib.IntN.{ℤ, pos, negℤ, natAbs, _+ℤ_, _-ℤ_, _*ℤ_}
-use lib.ListN.{length, getD, set}
+use lib.IntN.{ℤ, pos, negℤ, natAbs, _+ℤ_, _*ℤ_}
+use lib.ListN.{getD, set}
 use lib.Signed.{natAbs-le}
 use mir.Syntax.{w16, w32, w64}
 use mir.Val.{SFits, toZ, ofZ}
 use mir.Facts.{toZ-ofZ, sfits-widen}
 use Rattle.designs.specs.Rows.{nonzero}
-use Rattle.designs.proofs.Sizes.{size-add, size-neg, size-true}
+use Rattle.designs.proofs.Sizes.{size-add, size-neg}
 use Rattle.patterns.proofs.Integers.{true-size}
 use Rattle.signs.proofs.Integers.{fits-as, sized}
 use Rattle.rows.specs.declared.RowReport.{RowReport}
-use Rattle.rows.specs.Blocks.{ofPair, Addable, Reached, ReachedBy}
+use Rattle.rows.specs.Blocks.{Addable, Reached}
 use Rattle.rows.proofs.Turn.{turn, counts-once, equally}
 use Rattle.rows.proofs.sums.add.Statement.{statement}
 use Rattle.rows.proofs.sums.add.Tie as tie
@@ -148,7 +148,7 @@ slice-set-from-residue : tie.Need-slice-set-from-residue Inv-loop μ-loop
 slice-set-from-residue c =
     let turn = c .before .before .before in
     let so-far = turn .before .before .before .before .loop .inv .2 (start turn .pre .0) (start turn .pre .1 .0) (start turn .pre .1 .1) in
-    omega (arith, so-far .long, within turn, start turn .pre .1 .1 .room)
+    omega (arith, so-far .places .size, within turn, start turn .pre .1 .1 .room)
 
 loop-again : tie.Need-loop-again Inv-loop μ-loop
 loop-again c =
@@ -185,7 +185,7 @@ add-t30 : tie.Need-add-t30 Inv-loop μ-loop
 add-t30 c = record { fits = omega (arith, ended (c .before .before) .pairs-size, far (c .before .before)) }
 
 same-length : tie.Need-same-length Inv-loop μ-loop
-same-length c = ended (c .before .before) .long ∙ sym (entry (c .before .before) .pre .1 .1 .reached .sums .long)
+same-length c = ended (c .before .before) .places .size ∙ sym (entry (c .before .before) .pre .1 .1 .reached .sums .places .size)
 
 returns : tie.Need-returns Inv-loop μ-loop
 returns c =
