@@ -65,13 +65,16 @@ def time_tables(program):
     for key, label in designs.items():
         ours, best, native = (of(key, PAIRS, names) / PAIRS for names in ([OURS], C_ROWS, natives))
         by_patterns = [f'{of(key, PAIRS, [name]) / PAIRS:.2f}' if key[0] == 1 else '' for name in patterns]
-        long.append([label, f'{ours:.2f}', f'{best:.2f}', f'{ours / best:.2f}', f'{native:.2f}', f'{ours / native:.2f}', *by_patterns])
+        branch = of(key, PAIRS, BRANCHING) / PAIRS
+        long.append([label, f'{ours:.2f}', f'{best:.2f}', f'{ours / best:.2f}', f'{native:.2f}', f'{ours / native:.2f}', *by_patterns,
+                     f'{branch:.2f}'])
         cells = []
         for pairs in (1, 8):
             ours, best = (of(key, pairs, names) for names in ([OURS], C_ROWS))
             cells += [f'{ours:.1f}', f'{best:.1f}', f'{ours / best:.2f}']
         short.append([label, *cells])
-    return ((['design', 'ours', 'best C', 'ours / best C', 'best C, native', 'ours / native', 'patterns in C', 'patterns, native'], long),
+    head = ['design', 'ours', 'best C', 'ours / best C', 'best C, native', 'ours / native', 'patterns in C', 'patterns, native', 'branch']
+    return ((head, long),
             (['design', 'ours, 1 pair', 'best C', 'ours / best C', 'ours, 8 pairs', 'best C', 'ours / best C'], short))
 
 

@@ -29,6 +29,12 @@ def table(head, rows):
     print()
 
 
+def titled(tables):
+    for title, head, body in tables:
+        print(f'{title}:\n')
+        table(head, body)
+
+
 def operation_tables(program):
     settings = {1: 0, 2: 0, 3: 2, 4: 6}
     products = [(sign, design, width) for sign in ('unsigned', 'signed') for design in settings for width in (8, 16, 32)]
@@ -70,24 +76,20 @@ def print_tables(rows, folder, agreed):
     long, short = time_tables(folder / 'rows')
     print('### Scoring a row: nanoseconds a pair, rows of 4,096 uniform pairs, and nanoseconds a call for short rows\n')
     print('`best C`: the fastest of the C rows that shift and add, at gcc -O3 and -Os for baseline x86-64; `native`: at gcc -O3 with')
-    print('-march=native; `patterns`: design 1 by binary32 patterns in C at gcc -O3.\n')
+    print('-march=native; `patterns`: design 1 by binary32 patterns in C at gcc -O3; `branch`: the fastest C with a branch on signs.\n')
     table(*long)
     table(*short)
     print('### Scoring a row: instructions a pair, rows of 4,096\n')
     print('`each`: gcc -O3, a loop for each design; `one`: one loop for all; `masked`: signs by masks and not by a branch;')
     print('`Os`: gcc -Os; `Rust`: rustc -O. `ours / masked` is to the fewest at gcc -O3 without a branch on signs, and')
     print(f'`ours / fewest` to the fewest of all four at gcc -O3. Of the 4,096 pairs of small numbers {zeros} hold a 0.\n')
-    for title, head, body in pair_tables(rows):
-        print(f'{title}:\n')
-        table(head, body)
+    titled(pair_tables(rows))
     print('Branches predicted wrongly, a pair, by the processor that callgrind simulates, on the uniform numbers:\n')
     table(*wrong_table(rows))
     print('### Scoring a row: code bytes, with all that is called\n')
     table(*code_table(folder / 'rows'))
     print('### How a row grows: instructions of a whole call\n')
-    for title, head, body in growth_tables(rows):
-        print(f'{title}:\n')
-        table(head, body)
+    titled(growth_tables(rows))
     print('A refused row, by its length:\n')
     table(*refusal_table(rows))
     print('Stages: instructions a pair, and how many more than with one stage less. The most stages that a pair can need are')
