@@ -2,13 +2,14 @@
 // on the numbers. A binary32 pattern is a logarithm code above a sign, so the machine's casts take logarithms and powers.
 ghost use mathlib.Core.Path.{_≡_};
 ghost use lib.IntN.{natAbs, _*ℤ_};
-ghost use Rattle.designs.specs.Designs.{mitchell, nearest, truncated};
+ghost use Rattle.designs.specs.Designs.{mitchell, nearest, staged, truncated};
 ghost use Rattle.designs.specs.Rows.{nonzero};
 ghost use Rattle.designs.specs.Signs.{residue};
 ghost use Rattle.patterns.specs.Patterns.{clamped};
 
 mod logs;
 mod powers;
+mod sizes;
 mod stages;
 mod truncation;
 
@@ -17,6 +18,8 @@ use crate::logs::pattern;
 use crate::logs::residue_by;
 use crate::logs::unless_zero;
 use crate::powers::offset;
+use crate::sizes::less_size;
+use crate::sizes::size;
 use crate::truncation::clamp;
 use crate::truncation::kept_pattern;
 use crate::truncation::with_carry;
@@ -59,6 +62,17 @@ pub fn nearest_residue(w: i16, x: i16) -> i32
     ensures { λ r. ⌜ r ≡ residue nearest w x ⌝ }
 {
     offset(w) * offset(x)
+}
+
+// The residue of design 3, by the kernel, which stops where nothing is left. It has branches, and serves where pairs are so few that a
+// stage over a block takes longer.
+pub fn staged_residue(stages: u32, w: i16, x: i16) -> i32
+    ensures { λ r. ⌜ r ≡ residue (staged stages) w x ⌝ }
+{
+    less_size(
+        true_product(w, x),
+        kernels::staged(stages, size(w), size(x)) as u32,
+    )
 }
 
 // The residue of design 4; fewer kept bits than 1 act as 1, and more than 15 as 15. The compiler takes what depends on them alone out of

@@ -1,3 +1,4 @@
+pub mod Filling
 pub mod LeftOfBlock
 pub mod Turn
 pub mod Whole

@@ -6,14 +6,16 @@ use native.Mathlib.Numerals.{add-one}
 use native.Mathlib.Omega.{arith}
 use mathlib.Core.List.{List}
 use lib.IntN.{ℤ, pos, natAbs, _+ℤ_, _*ℤ_}
-use lib.ListN.{length, set}
+use lib.ListN.{length, getD, set}
 use Rattle.designs.specs.Designs.{unlessZero}
 use Rattle.designs.specs.Rows.{nonzero}
 use Rattle.designs.proofs.Cases.{either-lt}
 use Rattle.designs.proofs.Sizes.{size-add}
 use Rattle.rows.specs.Answers.{Fits16}
 use Rattle.patterns.proofs.Blocks.{next-done, none-done}
-use Rattle.rows.specs.Blocks.{ofPair, total, count, Reached}
+use Rattle.patterns.proofs.Integers.{true-size}
+use Rattle.rows.specs.Blocks.{ofPair, total, count, Reached, Roomy, withPair}
+use Rattle.rows.specs.declared.sums.Sums.{Sums}
 
 total-next : (f : ℕ → ℤ) (n : ℕ) → total f (n + 1) ≡ total f n +ℤ f n
 unfolding total
@@ -32,7 +34,10 @@ counts-once w x = once (natAbs w) (natAbs x)
     once (suc A) (suc B) = omega arith
 
 -- nothing has been added yet
-pub nothing : (z : ℕ → ℤ) (ws fs before : List ℤ) → Reached z ws fs before before 0 (pos 0) (pos 0) 0 0
+abbrev pub none : Sums
+none = record { «true_sum» = pos 0; error = pos 0; «magnitude_sum» = 0; «nonzero_pairs» = 0 }
+
+pub nothing : (z : ℕ → ℤ) (ws fs before : List ℤ) → Reached z ws fs before before 0 none
 unfolding total count
 nothing z ws fs before =
     record {
@@ -48,26 +53,31 @@ nothing z ws fs before =
       places = none-done z before;
     }
 
-module _ {z : ℕ → ℤ} {ws fs before after : List ℤ} {i : ℕ} {t e : ℤ} {m n : ℕ} (so-far : Reached z ws fs before after i t e m n) where
-  -- the pair's product p and residue r, its size s and whether it counts
-  pub turn : {p r : ℤ} {s c : ℕ} → i < length before → p ≡ ofPair _*ℤ_ ws fs i → r ≡ z i → s ≡ natAbs (ofPair _*ℤ_ ws fs i) → c ≡ ofPair nonzero ws fs i
-      → natAbs p ≤ 2 ^ 30 → natAbs r ≤ 2 ^ 31 → c ≤ 1 → Fits16 ws fs i
-      → Reached z ws fs before (set after i r) (i + 1) (t +ℤ p) (e +ℤ r) (m + s) (n + c)
-  turn {p} {r} {s} {c} l ep er es ec hp hr hc hf =
-      record {
-        true-is = ap₂ _+ℤ_ (so-far .true-is) ep ∙ sym (total-next (ofPair _*ℤ_ ws fs) i);
-        error-is = ap₂ _+ℤ_ (so-far .error-is) er ∙ sym (total-next z i);
-        magnitude-is = ap₂ _+_ (so-far .magnitude-is) es ∙ sym (count-next (ofPair (λ w x. natAbs (w *ℤ x)) ws fs) i);
-        pairs-is = ap₂ _+_ (so-far .pairs-is) ec ∙ sym (count-next (ofPair nonzero ws fs) i);
-        true-size = omega (arith, size-add t p, so-far .true-size);
-        error-size = omega (arith, size-add e r, so-far .error-size);
-        magnitude-size = omega (arith, ap natAbs ep, so-far .magnitude-size);
-        pairs-size = omega (arith, so-far .pairs-size);
-        fits = λ k g. either-lt k i (so-far .fits k) (λ b. let q : k ≡ i = omega arith in rw q hf);
-        places = next-done z i r (so-far .places) l er;
-      }
+-- a pair more, with the residue r
+pub turn : {z : ℕ → ℤ} {ws fs before after : List ℤ} {i : ℕ} (s : Sums) {r : ℤ} → Reached z ws fs before after i s → i < length before → r ≡ z i → natAbs r ≤ 2 ^ 31 → Fits16 ws fs i
+    → Reached z ws fs before (set after i r) (i + 1) (ofPair (withPair s) ws fs i r)
+turn {z} {ws} {fs} {i = i} s {r} so-far l er hr hf =
+    let w = getD ws i (pos 0) in
+    let x = getD fs i (pos 0) in
+    record {
+      true-is = ap (λ (t : ℤ). t +ℤ w *ℤ x) (so-far .true-is) ∙ sym (total-next (ofPair _*ℤ_ ws fs) i);
+      error-is = ap₂ _+ℤ_ (so-far .error-is) er ∙ sym (total-next z i);
+      magnitude-is = ap (λ (m : ℕ). m + natAbs (w *ℤ x)) (so-far .magnitude-is) ∙ sym (count-next (ofPair (λ w x. natAbs (w *ℤ x)) ws fs) i);
+      pairs-is = ap (λ (n : ℕ). n + nonzero w x) (so-far .pairs-is) ∙ sym (count-next (ofPair nonzero ws fs) i);
+      true-size = omega (arith, size-add (s .«true_sum») (w *ℤ x), so-far .true-size, true-size (hf .0) (hf .1));
+      error-size = omega (arith, size-add (s .error) r, so-far .error-size);
+      magnitude-size = omega (arith, so-far .magnitude-size, true-size (hf .0) (hf .1));
+      pairs-size = omega (arith, so-far .pairs-size, counts-once w x);
+      fits = λ k g. either-lt k i (so-far .fits k) (λ b. let q : k ≡ i = omega arith in rw q hf);
+      places = next-done z i r (so-far .places) l er;
+    }
 
--- the same of numbers that are equal
-pub equally : {z : ℕ → ℤ} {ws fs before after after' : List ℤ} {i i' : ℕ} {t t' e e' : ℤ} {m m' n n' : ℕ}
-    → after' ≡ after → i' ≡ i → t' ≡ t → e' ≡ e → m' ≡ m → n' ≡ n → Reached z ws fs before after i t e m n → Reached z ws fs before after' i' t' e' m' n'
-equally ea ei et ee em en so-far = rw (ea, ei, et, ee, em, en) so-far
+-- a row has at most 4,096 pairs, whose sums leave room
+pub roomy : {z : ℕ → ℤ} {ws fs before after : List ℤ} {i : ℕ} {s : Sums} → Reached z ws fs before after i s → i ≤ 4096 → Roomy s
+roomy so-far few =
+    record {
+      true-sum = omega (arith, so-far .true-size);
+      error = omega (arith, so-far .error-size);
+      magnitude-sum = omega (arith, so-far .magnitude-size);
+      pairs = omega (arith, so-far .pairs-size);
+    }

@@ -11,25 +11,13 @@ use lib.IntN.{ℤ, pos, negℤ, natAbs, _+ℤ_, _-ℤ_, _*ℤ_, +ℤ-assoc, +ℤ
 use lib.ListN.{length, take, drop, getD, length-append, length-drop, List·getD-append}
 use lib.Seq.{ext-getD, getD-append-add, getD-drop, take-all}
 use Rattle.designs.specs.Designs.{Design}
-use Rattle.designs.specs.Rows.{Report, emptyReport, nonzero, pairwise, report, residues, sumℤ, sum}
+use Rattle.designs.specs.Rows.{nonzero, pairwise, report, residues, sumℤ, sum}
 use Rattle.designs.specs.Signs.{residue, signedProduct}
 use Rattle.designs.proofs.Cases.{either-lt}
 use Rattle.designs.proofs.Prefixes.{pairwise-length, sumℤ-next, sum-next}
 use Rattle.designs.proofs.RowSums.{sum-minus}
-use Rattle.rows.specs.Answers.{reportOf}
-use Rattle.rows.specs.Blocks.{ofPair, total, count, ReachedBy}
-use Rattle.rows.specs.declared.RowReport.{RowReport}
-use Rattle.rows.proofs.Turn.{equally, nothing}
-
--- a report of zeros is that of no pairs
-pub begun : (z : ℕ → ℤ) (ws fs before : List ℤ) (r : RowReport) → reportOf r ≡ emptyReport → ReachedBy z ws fs before before 0 r
-begun z ws fs before r e =
-    let t = ap (λ (x : Report). x .trueSum) e in
-    let f = ap (λ (x : Report). x .error) e in
-    record {
-      score = ap (λ (x : Report). x .score) e ∙ sym (ap₂ _-ℤ_ t f);
-      sums = equally refl refl t f (ap (λ (x : Report). x .magnitudeSum) e) (ap (λ (x : Report). x .nonzeroPairs) e) (nothing z ws fs before);
-    }
+use Rattle.rows.specs.Blocks.{ofPair, total, count, Reached, reportBy}
+use Rattle.rows.specs.declared.sums.Sums.{Sums}
 
 -- totals and sums
 total-is : (q : ℤ → ℤ → ℤ) (ws fs : List ℤ) (n : ℕ) → n ≤ length ws → n ≤ length fs → total (ofPair q ws fs) n ≡ sumℤ (pairwise q (take n ws) (take n fs))
@@ -76,23 +64,23 @@ module _ (ws fs : List ℤ) (same : length ws ≡ length fs) where
       ap₂ (λ (us vs : List ℤ). length (pairwise (residue D) us vs)) (sym (take-all (length ws) ws (le-refl _))) (sym (take-all (length ws) fs (omega arith)))
       ∙ pairwise-length (residue D) (length ws) ws fs (le-refl _) (omega arith)
 
-module _ (D : Design) (ws fs before after : List ℤ) (r : RowReport) (same : length ws ≡ length fs) (room : length ws ≤ length before)
-    (all : ReachedBy (ofPair (residue D) ws fs) ws fs before after (length ws) r) where
-  pub whole-report : reportOf r ≡ report D ws fs
+module _ (D : Design) (ws fs before after : List ℤ) (s : Sums) (same : length ws ≡ length fs) (room : length ws ≤ length before)
+    (all : Reached (ofPair (residue D) ws fs) ws fs before after (length ws) s) where
+  pub whole-report : reportBy s ≡ report D ws fs
   unfolding report residue
   whole-report =
-      let t = all .sums .true-is ∙ wholeℤ ws fs same _*ℤ_ in
-      let e = all .sums .error-is ∙ wholeℤ ws fs same (residue D) ∙ sym (sum-minus _*ℤ_ (signedProduct D) ws fs) in
-      rw (all .score ∙ ap₂ _-ℤ_ t e ∙ left (sumℤ (pairwise _*ℤ_ ws fs)) (sumℤ (pairwise (signedProduct D) ws fs)), t, e, all .sums .magnitude-is ∙ wholeℕ ws fs same (λ w x. natAbs (w *ℤ x)), all .sums .pairs-is ∙ wholeℕ ws fs same nonzero)
+      let t = all .true-is ∙ wholeℤ ws fs same _*ℤ_ in
+      let e = all .error-is ∙ wholeℤ ws fs same (residue D) ∙ sym (sum-minus _*ℤ_ (signedProduct D) ws fs) in
+      rw (ap₂ _-ℤ_ t e ∙ left (sumℤ (pairwise _*ℤ_ ws fs)) (sumℤ (pairwise (signedProduct D) ws fs)), t, e, all .magnitude-is ∙ wholeℕ ws fs same (λ w x. natAbs (w *ℤ x)), all .pairs-is ∙ wholeℕ ws fs same nonzero)
 
   pub whole-residues : after ≡ residues D ws fs ++ drop (length ws) before
   unfolding residues
   whole-residues =
       let zs = residues D ws fs in
       let rest = drop (length ws) before in
-      ext-getD (pos 0) after (zs ++ rest) (omega (arith, all .sums .places .size, length-append zs rest, residues-length ws fs same D, length-drop (length ws) before))
+      ext-getD (pos 0) after (zs ++ rest) (omega (arith, all .places .size, length-append zs rest, residues-length ws fs same D, length-drop (length ws) before))
       (λ k h. either-lt k (length ws)
-      (λ b. all .sums .places .first k b ∙ sym (List·getD-append zs rest (pos 0) k (omega (arith, residues-length ws fs same D)) ∙ pair-at (residue D) (pos 0) ws fs k b (omega arith)))
-      (λ b. all .sums .places .later k b
+      (λ b. all .places .first k b ∙ sym (List·getD-append zs rest (pos 0) k (omega (arith, residues-length ws fs same D)) ∙ pair-at (residue D) (pos 0) ws fs k b (omega arith)))
+      (λ b. all .places .later k b
       ∙ sym (ap (λ (i : ℕ). getD (zs ++ rest) i (pos 0)) (omega (arith, residues-length ws fs same D)) ∙ getD-append-add zs rest (k - length ws) (pos 0) ∙ getD-drop (length ws) before (k - length ws) (pos 0)
       ∙ ap (λ (i : ℕ). getD before i (pos 0)) (omega arith))))

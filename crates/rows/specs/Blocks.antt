@@ -9,10 +9,10 @@ use Rattle.designs.specs.Designs.{Design, Keeps}
 use Rattle.designs.specs.Products.{designOf}
 use Rattle.patterns.specs.Blocks.{Done}
 use Rattle.patterns.specs.Patterns.{clamped}
-use Rattle.designs.specs.Rows.{nonzero}
+use Rattle.designs.specs.Rows.{Report, nonzero}
 use Rattle.designs.specs.Signs.{residue}
 use Rattle.rows.specs.Answers.{Fits16}
-use Rattle.rows.specs.declared.RowReport.{RowReport}
+use Rattle.rows.specs.declared.sums.Sums.{Sums}
 
 -- q of pair k of a row
 abbrev pub ofPair : {X : Type 0} → (ℤ → ℤ → X) → List ℤ → List ℤ → ℕ → X
@@ -59,28 +59,51 @@ pub record BlockLength (left r : ℕ) : Type 0 where
   pub few : r ≤ left
   pub fits : r ≤ 32
 
+-- sums that have room for a pair more
+pub record Roomy (s : Sums) : Type 0 where
+  pub true-sum : natAbs (s .«true_sum») < 2 ^ 62
+  pub error : natAbs (s .error) < 2 ^ 62
+  pub magnitude-sum : s .«magnitude_sum» < 2 ^ 62
+  pub pairs : s .«nonzero_pairs» < 2 ^ 31
+
+-- the sums with the pair w, x, whose residue is r
+abbrev pub withPair : Sums → ℤ → ℤ → ℤ → Sums
+withPair s w x r =
+    record {
+      «true_sum» = s .«true_sum» +ℤ w *ℤ x;
+      error = s .error +ℤ r;
+      «magnitude_sum» = s .«magnitude_sum» + natAbs (w *ℤ x);
+      «nonzero_pairs» = s .«nonzero_pairs» + nonzero w x;
+    }
+
+-- the report that the sums make
+abbrev pub reportBy : Sums → Report
+reportBy s =
+    record {
+      score = s .«true_sum» -ℤ s .error;
+      trueSum = s .«true_sum»;
+      error = s .error;
+      magnitudeSum = s .«magnitude_sum»;
+      nonzeroPairs = s .«nonzero_pairs»;
+    }
+
 -- What has been reached after n pairs of a row whose residues are z: the sums of these pairs, which n of 32 bits bound, and their
 -- residues in the first n places. The later places are as they were before.
-pub record Reached (z : ℕ → ℤ) (ws fs before after : List ℤ) (n : ℕ) (trueSum error : ℤ) (magnitudeSum nonzeroPairs : ℕ) : Type 0 where
-  pub true-is : trueSum ≡ total (ofPair _*ℤ_ ws fs) n
-  pub error-is : error ≡ total z n
-  pub magnitude-is : magnitudeSum ≡ count (ofPair (λ w x. natAbs (w *ℤ x)) ws fs) n
-  pub pairs-is : nonzeroPairs ≡ count (ofPair nonzero ws fs) n
-  pub true-size : natAbs trueSum ≤ n * 2 ^ 30
-  pub error-size : natAbs error ≤ n * 2 ^ 31
-  pub magnitude-size : magnitudeSum ≤ n * 2 ^ 30
-  pub pairs-size : nonzeroPairs ≤ n
+pub record Reached (z : ℕ → ℤ) (ws fs before after : List ℤ) (n : ℕ) (s : Sums) : Type 0 where
+  pub true-is : s .«true_sum» ≡ total (ofPair _*ℤ_ ws fs) n
+  pub error-is : s .error ≡ total z n
+  pub magnitude-is : s .«magnitude_sum» ≡ count (ofPair (λ w x. natAbs (w *ℤ x)) ws fs) n
+  pub pairs-is : s .«nonzero_pairs» ≡ count (ofPair nonzero ws fs) n
+  pub true-size : natAbs (s .«true_sum») ≤ n * 2 ^ 30
+  pub error-size : natAbs (s .error) ≤ n * 2 ^ 31
+  pub magnitude-size : s .«magnitude_sum» ≤ n * 2 ^ 30
+  pub pairs-size : s .«nonzero_pairs» ≤ n
   pub fits : (k : ℕ) → k < n → Fits16 ws fs k
   pub places : Done z n before after
 
--- the same of a report
-pub record ReachedBy (z : ℕ → ℤ) (ws fs before after : List ℤ) (n : ℕ) (r : RowReport) : Type 0 where
-  pub score : r .score ≡ r .«true_sum» -ℤ r .error
-  pub sums : Reached z ws fs before after n (r .«true_sum») (r .error) (r .«magnitude_sum») (r .«nonzero_pairs»)
-
 -- what adding a block of n pairs asks, whatever the residues z are
-pub record Addable (z : ℕ → ℤ) (report : RowReport) (ws fs block before places : List ℤ) (from n : ℕ) : Type 0 where
-  pub reached : ReachedBy z ws fs before places from report
+pub record Addable (z : ℕ → ℤ) (s : Sums) (ws fs block before places : List ℤ) (from n : ℕ) : Type 0 where
+  pub reached : Reached z ws fs before places from s
   pub inside : Inside ws fs block from n
   pub pairs : from + n ≤ 4096
   pub room : from + n ≤ length before

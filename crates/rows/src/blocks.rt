@@ -11,6 +11,9 @@ ghost use Rattle.patterns.specs.Patterns.{clamped};
 // The most pairs of a block.
 pub(crate) const BLOCK: usize = 32;
 
+// Fewer pairs than these take less time one by one than by stages over a block.
+const FEW: usize = 4;
+
 // By the number of a design that has been judged.
 pub(crate) fn fill(
     design: u32,
@@ -29,7 +32,11 @@ pub(crate) fn fill(
     } else if design == 2 {
         fill_nearest(weights, frame, from, count, block);
     } else if design == 3 {
-        fill_staged(setting, weights, frame, from, count, block);
+        if count < FEW {
+            fill_few_staged(setting, weights, frame, from, count, block);
+        } else {
+            fill_staged(setting, weights, frame, from, count, block);
+        }
     } else {
         fill_truncated(setting, weights, frame, from, count, block);
     }
@@ -77,6 +84,26 @@ fn fill_truncated(
         let w = weights[from + j];
         let x = frame[from + j];
         block[j] = patterns::truncated_residue(kept, w, x);
+        j += 1;
+    }
+}
+
+fn fill_few_staged(
+    stages: u32,
+    weights: &[i16],
+    frame: &[i16],
+    from: usize,
+    count: usize,
+    block: &mut [i32],
+)
+    requires { ⌜ Inside (now weights) (now frame) (now block) from count ⌝ }
+    ensures { λ r. ⌜ Filled (staged stages) (now (weights .entry)) (now (frame .entry)) from count (now (block .exit)) ⌝ }
+{
+    let mut j = 0;
+    while j < count {
+        let w = weights[from + j];
+        let x = frame[from + j];
+        block[j] = patterns::staged_residue(stages, w, x);
         j += 1;
     }
 }

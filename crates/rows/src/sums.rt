@@ -1,11 +1,20 @@
 // The sums of a row, block by block.
-ghost use Prim.Native.Nat.{ℕ, _+_};
+ghost use mathlib.Core.Path.{_≡_};
+ghost use Prim.Native.Nat.{ℕ, _+_, _^_, _<_};
 ghost use mathlib.Core.List.{List};
-ghost use lib.IntN.{ℤ};
-ghost use Rattle.rows.specs.Answers.{Ready, Summed};
-ghost use Rattle.rows.specs.Blocks.{Addable, BlockLength, ReachedBy};
+ghost use lib.IntN.{ℤ, natAbs};
+ghost use Rattle.rows.specs.Answers.{Ready, reportOf, Summed};
+ghost use Rattle.rows.specs.Blocks.{Addable, BlockLength, Reached, reportBy, Roomy, withPair};
 use crate::RowReport;
 use crate::blocks::BLOCK;
+
+// The sums of some pairs. Their number has 32 bits, so that the compiler counts four pairs at a time.
+struct Sums {
+    true_sum: i64,
+    error: i64,
+    magnitude_sum: u64,
+    nonzero_pairs: u32,
+}
 
 // Goes over the row in blocks: first the residues of a block, which the design alone decides, and then the sums, which are the same for
 // every design.
@@ -19,17 +28,22 @@ pub(crate) fn accumulate(
     requires { ⌜ Ready design setting (now weights) (now frame) (now residues) ⌝ }
     ensures { λ r. ⌜ Summed design setting (now (weights .entry)) (now (frame .entry)) (now (residues .entry)) (now (residues .exit)) r ⌝ }
 {
-    let mut report = RowReport::empty();
-    // no zeros, which the compiler would have set by a call
+    let mut sums = Sums {
+        true_sum: 0,
+        error: 0,
+        magnitude_sum: 0,
+        nonzero_pairs: 0,
+    };
+    // a number whose bytes differ: the compiler would set equal bytes, as those of 0 are, by a call of a C function
     let mut block = [258i32; BLOCK];
     let mut at = 0;
     while at < weights.len() {
         let count = block_length(weights.len() - at);
         crate::blocks::fill(design, setting, weights, frame, at, count, &mut block[..]);
-        report = add(report, weights, frame, at, count, &block[..], residues);
+        sums = add(sums, weights, frame, at, count, &block[..], residues);
         at += count;
     }
-    report
+    report_of(sums)
 }
 
 // How many pairs the next block has, where some are left.
@@ -42,40 +56,55 @@ fn block_length(left: usize) -> usize
     left
 }
 
-// Adds a block to the report of the pairs before it, and writes its residues to their places.
+// Adds a block to the sums of the pairs before it, and writes its residues to their places.
 fn add(
-    report: RowReport,
+    sums: Sums,
     weights: &[i16],
     frame: &[i16],
     from: usize,
     count: usize,
     block: &[i32],
     residues: &mut [i64],
-) -> RowReport
-    requires { ⌜ ((z : ℕ → ℤ) × ((before : List ℤ) × Addable z report (now weights) (now frame) (now block) before (now residues) from count)) ⌝ }
-    ensures { λ r. ⌜ ((z : ℕ → ℤ) (before : List ℤ) → Addable z report (now (weights .entry)) (now (frame .entry)) (now (block .entry)) before (now (residues .entry)) from count → ReachedBy z (now (weights .entry)) (now (frame .entry)) before (now (residues .exit)) (from + count) r) ⌝ }
+) -> Sums
+    requires { ⌜ ((z : ℕ → ℤ) × ((before : List ℤ) × Addable z sums (now weights) (now frame) (now block) before (now residues) from count)) ⌝ }
+    ensures { λ r. ⌜ ((z : ℕ → ℤ) (before : List ℤ) → Addable z sums (now (weights .entry)) (now (frame .entry)) (now (block .entry)) before (now (residues .entry)) from count → Reached z (now (weights .entry)) (now (frame .entry)) before (now (residues .exit)) (from + count) r) ⌝ }
 {
-    let mut true_sum = report.true_sum;
-    let mut error = report.error;
-    let mut magnitude_sum = report.magnitude_sum;
-    let mut pairs: u32 = 0;
+    let mut all = sums;
     let mut j = 0;
     while j < count {
         let w = weights[from + j];
         let x = frame[from + j];
         let residue = block[j] as i64;
-        true_sum += patterns::true_product(w, x) as i64;
-        error += residue;
-        magnitude_sum += patterns::true_size(w, x) as u64;
-        pairs += patterns::counts(w, x);
+        all = with_pair(all, w, x, residue);
         residues[from + j] = residue;
         j += 1;
     }
+    all
+}
+
+// The sums with one pair more.
+fn with_pair(sums: Sums, w: i16, x: i16, residue: i64) -> Sums
+    requires { ⌜ Roomy sums × (natAbs residue < 2 ^ 62) ⌝ }
+    ensures { λ r. ⌜ r ≡ withPair sums w x residue ⌝ }
+{
+    Sums {
+        true_sum: sums.true_sum + patterns::true_product(w, x) as i64,
+        error: sums.error + residue,
+        magnitude_sum: sums.magnitude_sum + patterns::true_size(w, x) as u64,
+        nonzero_pairs: sums.nonzero_pairs + patterns::counts(w, x),
+    }
+}
+
+// The report that the sums make.
+fn report_of(sums: Sums) -> RowReport
+    requires { ⌜ Roomy sums ⌝ }
+    ensures { λ r. ⌜ reportOf r ≡ reportBy sums ⌝ }
+{
     RowReport {
-        score: true_sum - error,
-        true_sum,
-        error,
-        magnitude_sum,
-        nonzero_pairs: report.nonzero_pairs + pairs as u64,
+        score: sums.true_sum - sums.error,
+        true_sum: sums.true_sum,
+        error: sums.error,
+        magnitude_sum: sums.magnitude_sum,
+        nonzero_pairs: sums.nonzero_pairs as u64,
     }
 }

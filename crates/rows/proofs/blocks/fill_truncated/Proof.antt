@@ -1,39 +1,29 @@
 -- The loop's invariant: the first j places hold the residues of as many pairs. Assumes nothing.
 use borrow.Author.Needs.{needs}
-use mathlib.Core.Path.{ap₂, _∙_}
-use Prim.Native.Nat.{_+_, _≤_, _-_}
-use mir.Facts.{toZ-ofZ}
+use Prim.Native.Nat.{_≤_, _-_}
 use native.Mathlib.Omega.{arith}
 use Rattle.designs.specs.Designs.{truncated}
-use Rattle.designs.specs.Signs.{residue}
 use Rattle.patterns.specs.Patterns.{clamped}
-use Rattle.rows.specs.Blocks.{ofPair}
-use Rattle.patterns.specs.Blocks.{Done}
-use Rattle.patterns.proofs.Blocks.{next-done, none-done}
+use Rattle.patterns.proofs.Blocks.{none-done}
+use Rattle.rows.proofs.Filling.{Filling, next}
 use Rattle.rows.proofs.blocks.fill_truncated.Statement.{statement}
 use Rattle.rows.proofs.blocks.fill_truncated.Tie as tie
 
 abbrev Inv-loop : tie.InvT-loop
-Inv-loop kept weights frame from count block₀ j₀ block j = (j ≤ count) × Done (λ k. ofPair (residue (truncated (clamped kept))) weights frame (from + k)) j block₀ block
+Inv-loop kept weights frame from count block₀ j₀ block j = (j ≤ count) × Filling (truncated (clamped kept)) weights frame from block₀ block j
 
 abbrev μ-loop : tie.MeasureT-loop
 μ-loop kept weights frame from count block₀ j₀ block j = count - j
 
-loop-holds : tie.Need-loop-holds Inv-loop μ-loop
-loop-holds c = (omega arith, none-done _ _)
-
 loop-again : tie.Need-loop-again Inv-loop μ-loop
 loop-again c =
     let pair = c .before in
-    let loop = pair .before .before .before .loop in (
+    let at = pair .before .before .before in
+    let args = at .before .args in (
       omega arith,
-      next-done _ (loop .j) _ (loop .inv .1) (omega arith)
-          (toZ-ofZ (record { sfits = c .truncated-residue .ok }) ∙ c .truncated-residue .ensures
-          ∙ ap₂ (residue (truncated (clamped (pair .before .before .before .before .args .kept)))) (toZ-ofZ (record { sfits = pair .before .w .given })) (toZ-ofZ (record { sfits = pair .x .given }))),
+      next _ (args .weights .now) (args .frame .now) (args .from) (at .loop .j) (at .loop .inv .1) (omega arith) (pair .before .w .given) (pair .x .given)
+          (c .truncated-residue .ok) (c .truncated-residue .ensures),
     )
-
-returns : tie.Need-returns Inv-loop μ-loop
-returns c = λ k h. c .before .loop .inv .1 .first k (omega arith)
 
 pub fill-truncated-spec : {M : Type 1} → statement M
 fill-truncated-spec =
@@ -41,7 +31,7 @@ fill-truncated-spec =
     (tie.spec
     Inv-loop
     μ-loop
-    loop-holds
+    (λ c. (omega arith, none-done _ _))
     (λ c. search needs)
     (λ c. search needs)
     (λ c. search needs)
@@ -55,4 +45,4 @@ fill-truncated-spec =
     (λ c. search needs)
     loop-again
     (λ c. search needs)
-    returns)
+    (λ c. λ k h. c .before .loop .inv .1 .first k (omega arith)))

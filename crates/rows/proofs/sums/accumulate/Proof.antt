@@ -8,25 +8,26 @@ use lib.IntN.{ℤ}
 use lib.ListN.{length}
 use Rattle.designs.specs.Products.{designOf}
 use Rattle.designs.specs.Signs.{residue}
-use Rattle.rows.specs.Blocks.{Addable, Fillable, ofPair, ReachedBy}
-use Rattle.rows.proofs.Whole.{begun, whole-report, whole-residues}
+use Rattle.rows.specs.Blocks.{Addable, Fillable, ofPair, Reached}
+use Rattle.rows.proofs.Whole.{whole-report, whole-residues}
+use Rattle.rows.proofs.Turn.{nothing, roomy}
 use Rattle.rows.proofs.sums.accumulate.Statement.{statement}
 use Rattle.rows.proofs.sums.accumulate.Tie as tie
 
 abbrev Inv-loop : tie.InvT-loop
-Inv-loop design setting weights frame residues₀ report₀ block₀ at₀ residues report block at =
-    (at ≤ length weights) × (length block ≡ 32) × ReachedBy (ofPair (residue (designOf design setting)) weights frame) weights frame residues₀ residues at report
+Inv-loop design setting weights frame residues₀ sums₀ block₀ at₀ residues sums block at =
+    (at ≤ length weights) × (length block ≡ 32) × Reached (ofPair (residue (designOf design setting)) weights frame) weights frame residues₀ residues at sums
 
 abbrev μ-loop : tie.MeasureT-loop
-μ-loop design setting weights frame residues₀ report₀ block₀ at₀ residues report block at = length weights - at
+μ-loop design setting weights frame residues₀ sums₀ block₀ at₀ residues sums block at = length weights - at
 
 loop-holds : tie.Need-loop-holds Inv-loop μ-loop
-loop-holds c = (omega arith, refl, begun _ _ _ _ _ (c .empty .ensures))
+loop-holds c = (omega arith, refl, nothing _ _ _ _)
 
 -- a block, when its length is known
 module _ (c : tie.After-block Inv-loop μ-loop) where
   abbrev start : tie.Start Inv-loop μ-loop
-  start = c .before .before .before .before .before
+  start = c .before .before .before .before
 
   abbrev at : ℕ
   at = c .before .before .before .loop .at
@@ -64,7 +65,7 @@ module _ (c : tie.After-fill Inv-loop μ-loop) where
   block-long : length (c .fill .last .1 .1 .1 .1 .1 .1 .0) ≡ 32
   block-long = c .fill .kept .1 .1 .1 .1 .1 .1 .0 ∙ here .before .before .before .loop .inv .1
 
-  addable : Addable residue-of (here .before .before .before .loop .report) (start here .args .weights .now) (start here .args .frame .now) (c .fill .last .1 .1 .1 .1 .1 .1 .0)
+  addable : Addable residue-of (here .before .before .before .loop .sums) (start here .args .weights .now) (start here .args .frame .now) (c .fill .last .1 .1 .1 .1 .1 .1 .0)
       (start here .args .residues .now) (here .before .before .before .loop .residues) (at here) (n here)
   addable =
       record {
@@ -93,20 +94,26 @@ loop-again c =
     let filled = c .before .before .before .before .before in
     (inside (filled .before), block-long filled, c .before .add .ensures _ _ (addable filled))
 
-same-length : tie.Need-same-length Inv-loop μ-loop
-same-length c = c .before .loop .inv .2 .sums .places .size
+-- the whole row, when the loop has ended
+module _ (c : tie.After-loop Inv-loop μ-loop) where
+  abbrev args : tie.Start Inv-loop μ-loop
+  args = c .before .before
+
+  all : Reached (ofPair (residue (designOf (args .args .design) (args .args .setting))) (args .args .weights .now) (args .args .frame .now)) (args .args .weights .now) (args .args .frame .now)
+      (args .args .residues .now) (c .before .loop .residues) (length (args .args .weights .now)) (c .before .loop .sums)
+  all = let end : length (args .args .weights .now) ≡ c .before .loop .at = omega (arith, c .before .loop .inv .0, c .loop-test .left) in rw end (c .before .loop .inv .2)
+
+report-of-requires : tie.Need-report-of-requires Inv-loop μ-loop
+report-of-requires c κs = roomy (all c) (args c .pre .pairs)
 
 returns : tie.Need-returns Inv-loop μ-loop
 returns c =
-    let start = c .before .before .before in
-    let loop = c .before .loop in
-    let D = designOf (start .args .design) (start .args .setting) in
-    let end : loop .at ≡ length (start .args .weights .now) = omega (arith, loop .inv .0, c .loop-test .left) in
-    let all = subst (λ (k : ℕ). ReachedBy (ofPair (residue D) (start .args .weights .now) (start .args .frame .now)) (start .args .weights .now) (start .args .frame .now) (start .args .residues .now) (loop .residues) k (loop .report)) end (loop .inv .2) in
+    let b = c .before in
+    let start = args b in
     record {
-      is = whole-report D _ _ _ _ _ (start .pre .lengths) (start .pre .places) all;
-      written = whole-residues D _ _ _ _ _ (start .pre .lengths) (start .pre .places) all;
-      fits = all .sums .fits;
+      is = c .report-of .ensures ∙ whole-report _ _ _ _ _ _ (start .pre .lengths) (start .pre .places) (all b);
+      written = whole-residues _ _ _ _ _ _ (start .pre .lengths) (start .pre .places) (all b);
+      fits = all b .fits;
     }
 
 pub accumulate-spec : {M : Type 1} → statement M
@@ -115,7 +122,6 @@ accumulate-spec =
     (tie.spec
     Inv-loop
     μ-loop
-    (λ c κs. search needs)
     loop-holds
     (λ c. search needs)
     (λ c κs. search needs)
@@ -126,5 +132,6 @@ accumulate-spec =
     (λ c. search needs)
     loop-less
     loop-again
-    same-length
+    report-of-requires
+    (λ c. all (c .before) .places .size)
     returns)

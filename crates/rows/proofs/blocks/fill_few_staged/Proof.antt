@@ -1,0 +1,47 @@
+-- The loop's invariant: the first j places hold the residues of as many pairs. Assumes nothing.
+use borrow.Author.Needs.{needs}
+use Prim.Native.Nat.{_≤_, _-_}
+use native.Mathlib.Omega.{arith}
+use Rattle.designs.specs.Designs.{staged}
+use Rattle.patterns.proofs.Blocks.{none-done}
+use Rattle.rows.proofs.Filling.{Filling, next}
+use Rattle.rows.proofs.blocks.fill_few_staged.Statement.{statement}
+use Rattle.rows.proofs.blocks.fill_few_staged.Tie as tie
+
+abbrev Inv-loop : tie.InvT-loop
+Inv-loop stages weights frame from count block₀ j₀ block j = (j ≤ count) × Filling (staged stages) weights frame from block₀ block j
+
+abbrev μ-loop : tie.MeasureT-loop
+μ-loop stages weights frame from count block₀ j₀ block j = count - j
+
+loop-again : tie.Need-loop-again Inv-loop μ-loop
+loop-again c =
+    let pair = c .before in
+    let at = pair .before .before .before in
+    let args = at .before .args in (
+      omega arith,
+      next _ (args .weights .now) (args .frame .now) (args .from) (at .loop .j) (at .loop .inv .1) (omega arith) (pair .before .w .given) (pair .x .given)
+          (c .staged-residue .ok) (c .staged-residue .ensures),
+    )
+
+pub fill-few-staged-spec : {M : Type 1} → statement M
+fill-few-staged-spec =
+    tie.close
+    (tie.spec
+    Inv-loop
+    μ-loop
+    (λ c. (omega arith, none-done _ _))
+    (λ c. search needs)
+    (λ c. search needs)
+    (λ c. search needs)
+    (λ c. search needs)
+    (λ c. search needs)
+    (λ c. search needs)
+    (λ c κs. search needs)
+    (λ c. search needs)
+    (λ c. search needs)
+    (λ c. search needs)
+    (λ c. search needs)
+    loop-again
+    (λ c. search needs)
+    (λ c. λ k h. c .before .loop .inv .1 .first k (omega arith)))

@@ -1,0 +1,40 @@
+-- Both sums are below 2^62 in size, so their difference fits. Assumes nothing.
+use borrow.Author.Needs.{needs}
+use mathlib.Core.Path.{_≡_, refl, ap, _∙_}
+use native.Mathlib.Omega.{arith}
+use lib.IntN.{ℤ, negℤ, _-ℤ_}
+use mir.Syntax.{w64}
+use mir.Val.{SFits, toZ, ofZ}
+use mir.Facts.{toZ-ofZ}
+use Rattle.designs.proofs.Sizes.{size-add, size-neg}
+use Rattle.signs.proofs.Integers.{fits-as, sized}
+use Rattle.rows.proofs.sums.report_of.Statement.{statement}
+use Rattle.rows.proofs.sums.report_of.Tie as tie
+
+module _ (c : tie.Start) where
+  abbrev t : ℤ
+  t = c .args .sums .«true_sum»
+
+  abbrev e : ℤ
+  e = c .args .sums .error
+
+  t-read : toZ w64 (ofZ w64 t) ≡ t
+  t-read = toZ-ofZ (sized t (omega (arith, c .pre .true-sum)))
+
+  e-read : toZ w64 (ofZ w64 e) ≡ e
+  e-read = toZ-ofZ (sized e (omega (arith, c .pre .error)))
+
+  score-is : toZ w64 (ofZ w64 t) -ℤ toZ w64 (ofZ w64 e) ≡ t -ℤ e
+  score-is = rw (t-read, e-read) refl
+
+  score-fits : SFits w64 (t -ℤ e)
+  score-fits = sized (t -ℤ e) (omega (arith, size-add t (negℤ e), size-neg e, c .pre .true-sum, c .pre .error))
+
+returns : tie.Need-returns
+returns c =
+    let s = c .before .before .before .before in
+    rw (ap (λ (y : ℤ). toZ w64 (ofZ w64 y)) (score-is s) ∙ toZ-ofZ (score-fits s), t-read s, e-read s) refl
+
+pub report-of-spec : {M : Type 1} → statement M
+report-of-spec =
+    tie.close (tie.spec (λ c. fits-as (score-is (c .before .before)) (score-fits (c .before .before))) (λ c. search needs) returns)
