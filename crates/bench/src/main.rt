@@ -1,12 +1,25 @@
-// Reads records from standard input and writes their transcript to standard output. One byte past the limit is read, which is enough
-// to tell an input that is too long.
-use libc::STDIN_FILENO;
-use libc::STDOUT_FILENO;
+// Reads records from standard input and writes their transcript to standard output. Of an input that could not be read to its end
+// nothing is written. What failed, reading or writing, is one line on standard error: a program of the kit cannot set its exit status,
+// and `tools/bench`, which runs this one, makes a status of that line.
+mod streams;
 
 fn main() {
+    // One byte past the limit is enough to tell an input that is too long.
     let mut input = [0u8; transcripts::INPUT_MAX + 1];
-    let n = io::read_full(STDIN_FILENO, &mut input);
+    let read = streams::read_input(&mut input);
+    if !read.is_whole {
+        os::fail(b"bench: reading standard input");
+        return;
+    }
+    let n = read.bytes;
+    print(&input[..n]);
+}
+
+fn print(input: &[u8]) {
     let mut out = [0u8; transcripts::TRANSCRIPT_MAX];
-    let k = transcripts::transcript(&input[..n], &mut out);
-    io::write_all(STDOUT_FILENO, &out[..k]);
+    let k = transcripts::transcript(input, &mut out);
+    let is_written = streams::write_output(&out[..k]);
+    if !is_written {
+        os::fail(b"bench: writing standard output");
+    }
 }
