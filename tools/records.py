@@ -1,7 +1,7 @@
 #!/usr/bin/env python3
 """Turn a readable text of bench records into their binary form, and back.
 
-    python3 tools/records.py encode TEXT  > RECORDS     (- reads standard input)
+    python3 tools/records.py encode TEXT > RECORDS      (- is standard input)
     python3 tools/records.py decode RECORDS > TEXT
 
 A line is one record; what follows a # is a comment, and an empty line is passed over:
@@ -12,10 +12,22 @@ A line is one record; what follows a # is a comment, and an empty line is passed
     bytes XX XX ..                  raw bytes in hexadecimal, for records that are no records
 
 Numbers are decimal, or hexadecimal after 0x. A number that its field cannot hold is an error here; whether the library accepts it is
-for the bench to say. An error names the place, FILE:LINE:COLUMN, and nothing is written.
+for the bench to say. An error names the place, FILE:LINE:COLUMN, and nothing is written. Records of more bytes than the bench takes
+are written all the same, and standard error says so. Where decoding meets a record that the bench cannot read, a comment has its
+refusal, and the rest follows as raw bytes.
+
+The exit status is 0, or 1 where something failed or was wrong, and standard error then says what.
 """
+import codecs
 import re
 import sys
+
+# nothing is to appear beside the tools
+sys.dont_write_bytecode = True
+
+from reference_meaning.records import MAX_INPUT
+from reference_meaning.refusals import CUT_SHORT, INPUT_TOO_LONG, UNKNOWN_KIND
+from streams import TOOL, Failure, label, read, run, say, write
 
 # a record: its kind, and for each field the lowest and the highest number and its bytes, low byte first
 BYTE, SIGNED, PATTERN = (0, 255, 1), (-32768, 32767, 2), (0, 2**32 - 1, 4)
@@ -25,60 +37,76 @@ RECORDS = {
     'table': (3, (('first byte', BYTE), ('second byte', BYTE))),
 }
 NAMES = {kind: name for name, (kind, _) in RECORDS.items()}
+# no field holds a number of more digits, those after leading zeros
+DIGITS = 10
+WORD = re.compile(r'\S+')
+NUMBER = re.compile(r'(-?)(?:0[xX]0*([0-9a-fA-F]+)|0*([0-9]+))')
+# so many wrong lines are shown, and of the others only how many they are
+SHOWN = 10
 
 
 class BadText(Exception):
-    pass
+    """A column of a line, and what is wrong there."""
 
 
-def number(word, low, high, what):
-    match = re.fullmatch(r'-?(0[xX][0-9a-fA-F]+|[0-9]+)', word)
+def shown(word):
+    return repr(word) if len(word) <= 40 else f'{word[:20]!r}.. of {len(word):,} characters'
+
+
+def number(column, word, low, high, what):
+    match = NUMBER.fullmatch(word)
     if not match:
-        raise ValueError(f'{what}: {word!r} is no number')
-    value = int(word, 16 if 'x' in word.lower() else 10)
-    if not low <= value <= high:
-        raise ValueError(f'{what}: {word} is not from {low} to {high}')
-    return value
+        raise BadText(column, f'{what}: {shown(word)} is no number')
+    sign, hexadecimal, decimal = match.groups()
+    digits = hexadecimal or decimal
+    if len(digits) <= DIGITS:
+        value = int(sign + digits, 16 if hexadecimal else 10)
+        if low <= value <= high:
+            return value
+    raise BadText(column, f'{what}: {shown(word)} is not from {low} to {high}')
 
 
-def raw_byte(word):
+def raw_byte(column, word):
     if not re.fullmatch(r'[0-9a-fA-F]{2}', word):
-        raise ValueError(f'{word!r} is no byte of two hexadecimal digits')
-    return bytes([int(word, 16)])
+        raise BadText(column, f'{shown(word)} is no byte of two hexadecimal digits')
+    return int(word, 16)
+
+
+def after(words):
+    column, word = words[-1]
+    return column + len(word)
 
 
 def encode_line(words):
-    """The bytes of a line's words, each a pair of its column and its text. An error is raised as (column, message)."""
-    column, name = words[0]
+    """The bytes of a line's words, each a pair of its column and its text."""
+    (column, name), *given = words
     if name == 'bytes':
-        coded = b''
-        for column, word in words[1:]:
-            try:
-                coded += raw_byte(word)
-            except ValueError as problem:
-                raise BadText(column, str(problem))
-        return coded
+        if not given:
+            raise BadText(after(words), 'bytes: there are none')
+        return bytes(raw_byte(*word) for word in given)
     if name not in RECORDS:
-        raise BadText(column, f'{name!r} is no record: product, single, table or bytes')
+        raise BadText(column, f'{shown(name)} is no record: product, single, table or bytes')
     kind, fields = RECORDS[name]
-    if len(words) - 1 < len(fields):
-        what = fields[len(words) - 1][0]
-        raise BadText(words[-1][0] + len(words[-1][1]), f'the {what} is missing')
-    if len(words) - 1 > len(fields):
-        raise BadText(words[len(fields) + 1][0], f'{words[len(fields) + 1][1]!r} is one field too many')
+    if len(given) < len(fields):
+        raise BadText(after(words), f'the {fields[len(given)][0]} is missing')
+    if len(given) > len(fields):
+        column, word = given[len(fields)]
+        raise BadText(column, f'{shown(word)} is one field too many')
     coded = bytes([kind])
-    for (what, (low, high, size)), (column, word) in zip(fields, words[1:]):
-        try:
-            coded += (number(word, low, high, what) % 256**size).to_bytes(size, 'little')
-        except ValueError as problem:
-            raise BadText(column, str(problem))
+    for (what, (low, high, size)), word in zip(fields, given):
+        coded += (number(*word, low, high, what) % 256**size).to_bytes(size, 'little')
     return coded
 
 
+def lines_of(text):
+    return text.replace('\r\n', '\n').replace('\r', '\n').split('\n')
+
+
 def encode(text, name):
-    coded, wrong = b'', []
-    for count, line in enumerate(text.splitlines(), 1):
-        words = [(m.start() + 1, m.group()) for m in re.finditer(r'\S+', line.split('#')[0])]
+    """The bytes of all records of a text."""
+    coded, wrong = bytearray(), []
+    for count, line in enumerate(lines_of(text), 1):
+        words = [(m.start() + 1, m.group()) for m in WORD.finditer(line.split('#', 1)[0])]
         if not words:
             continue
         try:
@@ -86,20 +114,46 @@ def encode(text, name):
         except BadText as problem:
             column, message = problem.args
             wrong.append(f'{name}:{count}:{column}: {message}')
+    if len(wrong) > SHOWN:
+        wrong[SHOWN:] = [f'{name}: {len(wrong) - SHOWN:,} more lines are wrong']
     if wrong:
-        sys.exit('\n'.join(wrong))
+        raise Failure(*wrong)
+    return bytes(coded)
+
+
+def text_of(given, name):
+    """The text that bytes are, without a byte-order mark."""
+    given = given.removeprefix(codecs.BOM_UTF8)
+    try:
+        return given.decode('utf-8')
+    except UnicodeDecodeError as problem:
+        before = lines_of(given[:problem.start].decode('utf-8'))
+        raise Failure(f'{name}:{len(before)}:{len(before[-1]) + 1}: this is no text in UTF-8')
+
+
+def encode_file(name):
+    """The records of a text, and a word where the bench will not take them."""
+    coded = encode(text_of(read(name), label(name)), label(name))
+    say_length(coded, name)
     return coded
 
 
+def say_length(coded, name):
+    if len(coded) > MAX_INPUT:
+        say(f'{TOOL}: {label(name)}: {len(coded):,} bytes of records; the bench refuses more than {MAX_INPUT:,} with {INPUT_TOO_LONG}')
+
+
 def decode(coded):
-    """A line for each record; from the first that is none on, the bytes as they are, as the bench ends its reading there."""
+    """A line for each record; from the first that the bench cannot read on, the bytes as they are, as it ends its reading there."""
     lines, at = [], 0
     while at < len(coded):
         name = NAMES.get(coded[at])
         fields = RECORDS[name][1] if name else ()
         end = at + 1 + sum(size for _, (_, _, size) in fields)
         if not name or end > len(coded):
-            lines.append('bytes ' + ' '.join(f'{b:02X}' for b in coded[at:]))
+            lines.append(f'# refusal {CUT_SHORT}: a {name} has {end - at} bytes, and {len(coded) - at} are left' if name else
+                         f'# refusal {UNKNOWN_KIND}: there is no kind {coded[at]}')
+            lines.append('bytes ' + coded[at:].hex(' ').upper())
             break
         words, at = [name], at + 1
         for _, (low, _, size) in fields:
@@ -110,25 +164,20 @@ def decode(coded):
     return ''.join(line + '\n' for line in lines)
 
 
-def main():
-    if len(sys.argv) != 3 or sys.argv[1] not in ('encode', 'decode'):
-        sys.exit('usage: records.py encode TEXT | decode RECORDS   (- is standard input)')
-    way, name = sys.argv[1:]
-    try:
-        given = sys.stdin.buffer.read() if name == '-' else open(name, 'rb').read()
-    except OSError as problem:
-        sys.exit(f'{name}: {problem.strerror}')
-    if way == 'decode':
-        sys.stdout.write(decode(given))
+def main(arguments):
+    if not arguments or arguments in (['-h'], ['--help']):
+        write(__doc__.encode())
         return
-    try:
-        text = given.decode('utf-8')
-    except UnicodeDecodeError as problem:
-        line = given[:problem.start].count(b'\n') + 1
-        column = problem.start - (given.rfind(b'\n', 0, problem.start) + 1) + 1
-        sys.exit(f'{name}:{line}:{column}: this is no text')
-    sys.stdout.buffer.write(encode(text, name))
+    if len(arguments) != 2 or arguments[0] not in ('encode', 'decode'):
+        raise Failure('usage: records.py encode TEXT | decode RECORDS   (- is standard input; --help says more)')
+    way, name = arguments
+    if way == 'encode':
+        write(encode_file(name))
+    else:
+        coded = read(name)
+        say_length(coded, name)
+        write(decode(coded).encode())
 
 
 if __name__ == '__main__':
-    main()
+    run(main)
