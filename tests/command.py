@@ -62,7 +62,7 @@ def try_building(folder):
     (copy / 'target/stamp/bench').touch()
     stand_in(folder, f'[ "$*" = "check bench" ] && [ ! -e target/stamp/bench ] && mkdir target/bin && cp {PROGRAM} target/bin && sleep 1.2')
     status, wrote, said = ran(command)
-    progress = 'bench: proving and building what has changed; from nothing it takes a minute or two\nbench: proved and built in [0-9]+ s\n'
+    progress = 'bench: proving and building where that is due; from nothing .*\nbench: all is proved and built, after [0-9]+ s\n'
     expect('a missing program', (status, wrote, bool(re.fullmatch(progress, said)) or said), (0, LINES, True))
     stand_in(folder, 'seq 100; echo not proved >&2; exit 3')
     expect('rt fails', ran(command),
@@ -71,6 +71,8 @@ def try_building(folder):
     beside = [subprocess.Popen(command, stdout=subprocess.PIPE, stderr=subprocess.DEVNULL) for _ in range(3)]
     expect('three at once', [(process.communicate()[0], process.returncode) for process in beside], [(LINES, 0)] * 3)
     stand_in(folder)
+    (copy / 'target/bin/bench').write_text('#!/bin/sh\nkill -SEGV $$\n')
+    expect('a program that is ended', ran(command), (1, b'', 'bench: target/bin/bench was ended by SIGSEGV\n'))
     (copy / 'target/bin/bench').unlink()
     expect('rt makes no program', ran(command), (1, b'', 'bench: rt check bench made no target/bin/bench\n'))
     expect('no rt', ran([sys.executable, copy / 'tools/bench.py', EXAMPLE], before='export PATH=/nowhere;'),
@@ -91,6 +93,9 @@ def stopped(process, number):
 
 
 def try_stopping(folder):
+    # what a script runs in the background has interrupts ignored, these tests among it
+    for number in (signal.SIGINT, signal.SIGTERM):
+        signal.signal(number, signal.SIG_DFL)
     options = {'stdout': subprocess.PIPE, 'stderr': subprocess.PIPE, 'bufsize': 0, 'start_new_session': True}
     # As it proves, where it has said so. What a shell runs in the background ignores an interrupt, and ends all the same.
     started = folder / 'started'

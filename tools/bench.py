@@ -3,7 +3,7 @@
     tools/bench [--text] [FILE]
 
 FILE.txt is a text of records, written as `python3 tools/records.py --help` says. Any other FILE holds records in their binary form, and
-so does standard input, which is read where FILE is missing or -. With --text they are a text whatever the name.
+so does standard input, which is read where no FILE is named or FILE is -. With --text either is a text, whatever its name.
 
 The bench is proved and built first where its sources have changed, by `rt check bench`; that takes a minute or two from nothing.
 
@@ -12,6 +12,7 @@ written; a refused record is a line of the transcript and no failure. Otherwise 
 """
 import contextlib
 import fcntl
+import itertools
 import os
 import pathlib
 import signal
@@ -28,19 +29,21 @@ from streams import INPUT, TOOL, Failure, opened, run, say, write
 
 ROOT = pathlib.Path(__file__).resolve().parent.parent
 PROGRAM = ROOT / 'target/bin/bench'
-# seconds that rt takes where nothing is due, and more; lines that are shown of what it said
+# more seconds than rt takes where nothing is due, and how many lines are shown of what it said where it fails
 PATIENCE, SHOWN = 1, 20
 
 
 @contextlib.contextmanager
 def alone():
-    """Only one command at a time has rt check: it keeps its notes in files that a second one would write too."""
+    """One command at a time runs rt, which keeps notes in files that a second one would write too."""
     with open(ROOT / 'crates.txt') as lock:
-        try:
-            fcntl.flock(lock, fcntl.LOCK_EX | fcntl.LOCK_NB)
-        except BlockingIOError:
-            say(f'{TOOL}: waiting for another run, which proves and builds')
-            fcntl.flock(lock, fcntl.LOCK_EX)
+        for turn in itertools.count():
+            with contextlib.suppress(BlockingIOError):
+                fcntl.flock(lock, fcntl.LOCK_EX | fcntl.LOCK_NB)
+                break
+            if turn == 10 * PATIENCE:
+                say(f'{TOOL}: waiting for another run, which proves and builds')
+            time.sleep(0.1)
         yield
 
 
@@ -55,9 +58,9 @@ def prove():
         said.seek(0)
         if status != 0:
             lines = said.read().decode(errors='replace').splitlines()
-            raise Failure(*lines[-SHOWN:], f'{TOOL}: rt check bench ended with status {status}')
+            raise Failure(*lines[-SHOWN:], f'{TOOL}: rt check bench {ending(status)}')
         if time.monotonic() - start > PATIENCE:
-            say(f'{TOOL}: proved and built in {time.monotonic() - start:.0f} s')
+            say(f'{TOOL}: all is proved and built, after {time.monotonic() - start:.0f} s')
     if not PROGRAM.exists():
         raise Failure(f'{TOOL}: rt check bench made no {PROGRAM.relative_to(ROOT)}')
 
@@ -73,12 +76,16 @@ def check(said):
         try:
             return rt.wait(PATIENCE)
         except subprocess.TimeoutExpired:
-            say(f'{TOOL}: proving and building what has changed; from nothing it takes a minute or two')
+            say(f'{TOOL}: proving and building where that is due; from nothing it takes a minute or two')
             return rt.wait()
     except BaseException:
         with contextlib.suppress(ProcessLookupError):
             os.killpg(rt.pid, signal.SIGTERM)
         raise
+
+
+def ending(status):
+    return f'ended with status {status}' if status > 0 else f'was ended by {signal.Signals(-status).name}'
 
 
 def transcribe(source):
@@ -88,7 +95,7 @@ def transcribe(source):
     if ran.stderr:
         raise Failure(*ran.stderr.decode(errors='replace').splitlines())
     if ran.returncode != 0:
-        raise Failure(f'{TOOL}: {PROGRAM.relative_to(ROOT)} ended with status {ran.returncode}')
+        raise Failure(f'{TOOL}: {PROGRAM.relative_to(ROOT)} {ending(ran.returncode)}')
 
 
 def main(arguments):

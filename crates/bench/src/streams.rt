@@ -16,7 +16,7 @@ const FAILED: Read = Read {
     bytes: 0,
 };
 
-// Where a read failed, errno says why.
+// Reads until the input ends or the buffer is full. Where a read failed, errno says why.
 pub fn read_input(buffer: &mut [u8]) -> Read
     ensures { λ r. ⌜ Counts (r .bytes) (now (buffer .exit)) ⌝ }
 {
