@@ -5,7 +5,7 @@ Times of rows are medians over rows that no implementation has seen, in turns in
 exactly. Every implementation is first compared with the library on the reports and the residues of many rows, so that nothing is
 measured that does not do the same work.
 
-Usage: python3 benchmarks/run.py [ARCHIVE]     (the default is target/staticlib/libcapi.a, which rt staticlib capi writes)
+Usage: python3 benchmarks/run.py [ARCHIVE]     (the default is target/libhighvane.a, which tools/archive makes)
 """
 import sys
 import tempfile
@@ -105,9 +105,9 @@ def print_tables(rows, folder, agreed):
 def main():
     if len(sys.argv) > 2 or sys.argv[1:] in (['-h'], ['--help']):
         sys.exit(__doc__)
-    archive = Path(sys.argv[1]) if len(sys.argv) == 2 else HERE.parent / 'target' / 'staticlib' / 'libcapi.a'
+    archive = Path(sys.argv[1]) if len(sys.argv) == 2 else HERE.parent / 'target' / 'libhighvane.a'
     if not archive.is_file():
-        sys.exit(f'benchmarks: there is no archive {archive}; rt staticlib capi makes target/staticlib/libcapi.a')
+        sys.exit(f'benchmarks: there is no archive {archive}; tools/archive makes target/libhighvane.a')
     with tempfile.TemporaryDirectory() as name:
         folder = Path(name)
         build(archive.resolve(), folder)

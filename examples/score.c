@@ -12,7 +12,7 @@ static const int16_t store[STORE] = {
 
 static int refused(const char *what, uint32_t refusal) {
     if (refusal != HIGHVANE_ACCEPTED)
-        printf("%s: refusal %" PRIu32 "\n", what, refusal);
+        printf("%s: refusal %" PRIu32 ", %s\n", what, refusal, highvane_refusal_text(refusal));
     return refusal != HIGHVANE_ACCEPTED;
 }
 

@@ -10,9 +10,13 @@
  * - A pointer is aligned for its type and points at as many elements as the length beside it says; `out` points at
  *   HIGHVANE_TRANSCRIPT_MAX bytes. Where a length is 0, its pointer is not followed and may be anything, NULL too.
  * - The buffer that is written (residues, out) overlaps no other argument. Buffers that are only read may overlap or be the same.
+ * - The code is for x86-64 and its System V ABI. It keeps numbers in the 128 bytes below the stack pointer (the red zone) and in
+ *   the SSE registers. Programs of an operating system need not care. In a kernel or on the bare machine an interrupt handler that
+ *   runs on the stack it interrupts would write over those bytes: call with interrupts off there, or on a stack that no handler
+ *   uses. A handler that itself calls saves the SSE registers first and, as for any C, aligns the stack to 16 bytes.
  *
  * Nothing is kept from one call to the next and nothing is allocated, so threads may call at the same time, each with its own
- * buffer to write to. This file works as C99 or later and as C++98 or later.
+ * buffer to write to. This file works as C99 or later and as C++98 or later, and as C90 where the compiler is GNU's or like it.
  */
 #ifndef HIGHVANE_H
 #define HIGHVANE_H
@@ -24,6 +28,11 @@
 extern "C" {
 #endif
 
+/* The version. Code that works with one version works, compiled again, with every later one of the same first number. */
+#define HIGHVANE_VERSION_MAJOR 1
+#define HIGHVANE_VERSION_MINOR 0
+#define HIGHVANE_VERSION_PATCH 0
+
 /* The designs, each with the settings that it takes at width w; rows have width 16. */
 enum highvane_design {
     HIGHVANE_MITCHELL = 1,      /* setting 0 */
@@ -32,29 +41,61 @@ enum highvane_design {
     HIGHVANE_TRUNCATED = 4      /* setting 1 to w - 1: the bits kept of each fraction */
 };
 
-/* The refusals. 17 to 19 stand only in the text of highvane_transcript. */
+/* The refusals; highvane_refusal_text says what each means. 17 to 19 stand only in the text of highvane_transcript. */
 enum highvane_refusal {
     HIGHVANE_ACCEPTED = 0,
-    HIGHVANE_UNKNOWN_DESIGN = 1,        /* the design is not 1 to 4 */
-    HIGHVANE_UNKNOWN_WIDTH = 2,         /* the width is not 8, 16 or 32 */
-    HIGHVANE_SETTING_OUT_OF_RANGE = 3,  /* the setting is not one that the design takes */
-    HIGHVANE_OPERAND_OUTSIDE_WIDTH = 4, /* an operand is not 0 to 2^w - 1, or, signed, not -2^(w-1) to 2^(w-1) - 1 */
-    HIGHVANE_LENGTHS_DIFFER = 5,        /* weights and frame differ in length */
-    HIGHVANE_TOO_MANY_PAIRS = 6,        /* the row has more than HIGHVANE_PAIRS_MAX pairs */
-    HIGHVANE_RESIDUES_TOO_SHORT = 7,    /* the buffer for the residues is shorter than the row */
-    HIGHVANE_NOT_FINITE = 8,            /* an operand is infinite or NaN */
-    HIGHVANE_SUBNORMAL = 9,             /* an operand is subnormal: its exponent field is 0, and its fraction is not */
-    HIGHVANE_EXPONENT_TOO_LARGE = 10,   /* the result's exponent field would pass 254 */
-    HIGHVANE_EXPONENT_TOO_SMALL = 11,   /* the result's exponent field would be below 1 */
-    HIGHVANE_COLUMNS_OUT_OF_RANGE = 12, /* the columns are 0 or more than HIGHVANE_PAIRS_MAX */
-    HIGHVANE_UNEVEN_STORE = 13,         /* the columns do not divide the store's length */
-    HIGHVANE_NO_SUCH_ROW = 14,          /* the row number is not below the store's length / columns */
-    HIGHVANE_SHIFT_TOO_LARGE = 15,      /* the shift is above HIGHVANE_SHIFT_MAX */
-    HIGHVANE_SIZE_TOO_LARGE = 16,       /* the score or T is above 2^53 in size */
-    HIGHVANE_UNKNOWN_KIND = 17,         /* the record's kind is unknown */
-    HIGHVANE_CUT_SHORT = 18,            /* the record's body is cut short */
-    HIGHVANE_INPUT_TOO_LONG = 19        /* the input is longer than HIGHVANE_INPUT_MAX bytes */
+    HIGHVANE_UNKNOWN_DESIGN = 1,
+    HIGHVANE_UNKNOWN_WIDTH = 2,
+    HIGHVANE_SETTING_OUT_OF_RANGE = 3,
+    HIGHVANE_OPERAND_OUTSIDE_WIDTH = 4,
+    HIGHVANE_LENGTHS_DIFFER = 5,
+    HIGHVANE_TOO_MANY_PAIRS = 6,
+    HIGHVANE_RESIDUES_TOO_SHORT = 7,
+    HIGHVANE_NOT_FINITE = 8,
+    HIGHVANE_SUBNORMAL = 9,
+    HIGHVANE_EXPONENT_TOO_LARGE = 10,
+    HIGHVANE_EXPONENT_TOO_SMALL = 11,
+    HIGHVANE_COLUMNS_OUT_OF_RANGE = 12,
+    HIGHVANE_UNEVEN_STORE = 13,
+    HIGHVANE_NO_SUCH_ROW = 14,
+    HIGHVANE_SHIFT_TOO_LARGE = 15,
+    HIGHVANE_SIZE_TOO_LARGE = 16,
+    HIGHVANE_UNKNOWN_KIND = 17,
+    HIGHVANE_CUT_SHORT = 18,
+    HIGHVANE_INPUT_TOO_LONG = 19
 };
+
+/* What a refusal means, as a sentence without a full stop; also for 0, and for a number that is no refusal. */
+#ifdef __GNUC__
+static __inline__
+#else
+static inline
+#endif
+const char *highvane_refusal_text(uint32_t refusal) {
+    switch (refusal) {
+    case HIGHVANE_ACCEPTED: return "accepted";
+    case HIGHVANE_UNKNOWN_DESIGN: return "the design is not 1 to 4";
+    case HIGHVANE_UNKNOWN_WIDTH: return "the width is not 8, 16 or 32";
+    case HIGHVANE_SETTING_OUT_OF_RANGE: return "the setting is not one that the design takes at this width";
+    case HIGHVANE_OPERAND_OUTSIDE_WIDTH: return "an operand is outside the width";
+    case HIGHVANE_LENGTHS_DIFFER: return "the weights and the frame differ in length";
+    case HIGHVANE_TOO_MANY_PAIRS: return "the row has more than 4,096 pairs";
+    case HIGHVANE_RESIDUES_TOO_SHORT: return "there are fewer places for the residues than pairs";
+    case HIGHVANE_NOT_FINITE: return "an operand is infinite or NaN";
+    case HIGHVANE_SUBNORMAL: return "an operand is subnormal";
+    case HIGHVANE_EXPONENT_TOO_LARGE: return "the result's exponent field would pass 254";
+    case HIGHVANE_EXPONENT_TOO_SMALL: return "the result's exponent field would be below 1";
+    case HIGHVANE_COLUMNS_OUT_OF_RANGE: return "the columns are 0 or more than 4,096";
+    case HIGHVANE_UNEVEN_STORE: return "the columns do not divide the store's length";
+    case HIGHVANE_NO_SUCH_ROW: return "the store has no row of that number";
+    case HIGHVANE_SHIFT_TOO_LARGE: return "the shift is above 40";
+    case HIGHVANE_SIZE_TOO_LARGE: return "the size of the score or of T is above 2^53";
+    case HIGHVANE_UNKNOWN_KIND: return "the record's kind is unknown";
+    case HIGHVANE_CUT_SHORT: return "the record's body is cut short";
+    case HIGHVANE_INPUT_TOO_LONG: return "the input is longer than 65,536 bytes";
+    default: return "no refusal has this number";
+    }
+}
 
 #define HIGHVANE_PAIRS_MAX 4096        /* pairs of a row, and columns of a weight store */
 #define HIGHVANE_SHIFT_MAX 40          /* shift of a score that is handed out */
@@ -68,13 +109,14 @@ typedef struct { double score, magnitude_sum; uint32_t refusal; } highvane_scale
 typedef struct { float value; uint32_t refusal; } highvane_single;
 
 /*
- * The design's product of two operands of `width` bits: 8, 16 or 32.
+ * The design's product of two operands of `width` bits, w: 8, 16 or 32. Operands are 0 to 2^w - 1.
  * Refusals: 1, 2, 3, 4.
  */
 highvane_unsigned highvane_product_unsigned(uint32_t design, uint32_t width, uint32_t setting, uint64_t a, uint64_t b);
 
 /*
- * The same for signed operands: the design's product of their sizes, with a minus sign where their signs differ.
+ * The same for signed operands, -2^(w-1) to 2^(w-1) - 1: the design's product of their sizes, with a minus sign where their signs
+ * differ.
  * Refusals: 1, 2, 3, 4.
  */
 highvane_signed highvane_product_signed(uint32_t design, uint32_t width, uint32_t setting, int64_t a, int64_t b);
@@ -115,7 +157,8 @@ highvane_scaled highvane_scale(int64_t score, uint64_t magnitude_sum, uint32_t s
 
 /*
  * Mitchell's product of two binary32 numbers, which come as their 32-bit patterns. A zero operand gives zero. The result, also a
- * zero, has a minus sign where the operands' signs differ. Nothing is rounded.
+ * zero, has a minus sign where the operands' signs differ. Nothing is rounded. A subnormal operand, whose exponent field is 0 and
+ * whose fraction is not, is refused.
  * Refusals: 8, 9; then, unless an operand is zero, 10, 11.
  */
 highvane_single highvane_single_product(uint32_t a, uint32_t b);

@@ -71,15 +71,19 @@ def is_path(word):
 
 
 def check_examples():
-    """The examples that README.md shows are the files that the tests compile and run, and the output is what they print."""
+    """The programs that README.md shows are those that the tests compile and run, and the output is what they print."""
     readme = text('README.md')
-    shown = dict(re.findall(r'```(\w*)\n(.*?)```', readme, re.S))
+    shown = re.findall(r'```(\w*)\n(.*?)```', readme, re.S)
     # the bench's lines stand indented in README.md
-    shown['bench'] = ''.join(line[4:] + '\n' for line in readme.splitlines() if re.match(r'    (\d+ (ok|no)|total) \d+', line))
-    files = {'c': 'examples/score.c', '': 'tests/c/score.out', 'rust': 'tests/rust/examples/score.rs', 'bench': 'crates/bench/stdout'}
-    for kind, file in files.items():
-        if shown.get(kind) != text(file):
-            report('README.md', f'shows another text than {file}')
+    shown.append(('bench', ''.join(line[4:] + '\n' for line in readme.splitlines() if re.match(r'    (\d+ (ok|no)|total) \d+', line))))
+    tested = {('c', 'examples/score.c'), ('', 'examples/score.out'), ('rust', 'bindings/rust/examples/score.rs'),
+              ('python', 'bindings/python/examples/score.py'), ('bench', 'crates/bench/stdout')}
+    for kind, file in sorted(tested):
+        if (kind, text(file)) not in shown:
+            report('README.md', f'does not show {file} as it is')
+    for kind, block in shown:
+        if kind in ('c', 'rust', 'python') and (kind, block) not in {(kind, text(file)) for kind, file in tested}:
+            report('README.md', f'shows in {kind} what no test runs: {block.splitlines()[0]}')
 
 
 def table_rows(document):

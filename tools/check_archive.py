@@ -3,11 +3,13 @@
 
 The chip has no multiplier, so no function that computes a design's product may hold a multiply instruction. Scoring a row, which
 the bench does and the chip does otherwise, multiplies: it forms the true product of each pair, and by designs 2 and 3 the residue as
-the product of what powers leave; the compiler makes two loops of each, for four pairs and for the rest. The writer of decimals divides by ten, which the compiler does by a multiply. The archive must
-need nothing from outside (no undefined symbol) and hold no data that a program could write, so that it can go into ROM as it is.
-Constants are counted: the byte table's 512 bytes, the words of a transcript, and the vectors of four equal numbers that rows read.
+the product of what powers leave; the compiler makes two loops of each, for four pairs and for the rest. The writer of decimals
+divides by ten, which the compiler does by a multiply. The archive must need nothing from outside (no undefined symbol) and hold no
+data that a program could write, so that it can go into ROM as it is. Constants are counted: the byte table's 512 bytes, the words of
+a transcript, and the vectors of four equal numbers that rows read. Of the stack below its pointer a function may use the red zone
+alone, as the header says.
 
-Usage: python3 tools/check_archive.py ARCHIVE     (rt staticlib capi writes target/staticlib/libcapi.a)
+Usage: python3 tools/check_archive.py ARCHIVE     (tools/archive writes target/libhighvane.a)
 """
 import re
 import subprocess
@@ -21,6 +23,9 @@ ALLOWED = {'highvane_score_row': 17, 'transcripts::writers::put_number': 1}
 DATA = re.compile(r'\.(data|bss|tdata|tbss|init_array|fini_array)\b')
 CONSTANTS = re.compile(r'\.rodata\b')
 CONSTANT_BYTES = 512 + 40 + 112
+# an operand below the stack pointer, and how many bytes below it anything may lie
+BELOW_STACK = re.compile(r'-0x([0-9a-f]+)\(%rsp')
+RED_ZONE = 128
 
 
 def output(*command):
@@ -28,16 +33,16 @@ def output(*command):
 
 
 def functions(archive):
-    """The instructions of each function, and how many bytes it has."""
+    """The instructions of each function, each with its operands, and how many bytes it has."""
     code, name = {}, None
     for line in output('objdump', '-d', '--no-show-raw-insn', archive).splitlines():
         head = re.match(r'[0-9a-f]+ <(.+)>:$', line)
         if head:
             name = head.group(1)
             code[name] = []
-        instruction = re.match(r'\s+[0-9a-f]+:\s+(\S+)', line)
+        instruction = re.match(r'\s+[0-9a-f]+:\s+(\S+)(.*)', line)
         if instruction and name:
-            code[name].append(instruction.group(1))
+            code[name].append(instruction.groups())
     sizes = {}
     for line in output('nm', '--print-size', '--defined-only', archive).splitlines():
         symbol = re.match(r'[0-9a-f]+ ([0-9a-f]+) [Tt] (.+)$', line)
@@ -55,9 +60,12 @@ def main():
     if not any(name.startswith('highvane_') for name in code):
         wrong.append('no exported function was found')
     for name, instructions in code.items():
-        found = [i for i in instructions if MULTIPLY.fullmatch(i)]
+        found = [i for i, _ in instructions if MULTIPLY.fullmatch(i)]
         if len(found) > ALLOWED.get(name, 0):
             wrong.append(f'{name} multiplies: {", ".join(found)}')
+        below = max((int(depth, 16) for _, operands in instructions for depth in BELOW_STACK.findall(operands)), default=0)
+        if below > RED_ZONE:
+            wrong.append(f'{name} reaches {below} bytes below the stack pointer, more than {RED_ZONE}')
     undefined = output('nm', '--undefined-only', archive).split()[1:]
     if undefined:
         wrong.append('undefined symbols: ' + ' '.join(undefined))

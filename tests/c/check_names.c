@@ -1,7 +1,11 @@
-/* The header's names: each refusal's, against a call that is refused for what the name says; and the limits, which are accepted. */
+/*
+ * The header's names: each refusal's, against a call that is refused for what the name says; the limits, which are accepted; and the
+ * refusals' texts.
+ */
 #include "checks.h"
 
 #include <stdio.h>
+#include <string.h>
 
 static int16_t numbers[HIGHVANE_PAIRS_MAX + 1];
 static int64_t residues[HIGHVANE_PAIRS_MAX + 1];
@@ -22,6 +26,17 @@ static uint32_t in_text(uint8_t kind, size_t input_len) {
     input[0] = kind;
     out[highvane_transcript(input, input_len, out)] = 0;
     return sscanf((char *)out, "%*u no %u", &refusal) == 1 ? refusal : 0;
+}
+
+/* Each refusal has a text of its own, and so have no refusal and a number that is none. */
+static void texts(void) {
+    for (uint32_t refusal = HIGHVANE_ACCEPTED; refusal <= HIGHVANE_INPUT_TOO_LONG + 1; refusal++)
+        for (uint32_t other = HIGHVANE_ACCEPTED; other < refusal; other++)
+            compare(strcmp(highvane_refusal_text(refusal), highvane_refusal_text(other)) != 0,
+                    "refusals %" PRIu32 " and %" PRIu32 " have one text", refusal, other);
+    compare(strcmp(highvane_refusal_text(UINT32_MAX), highvane_refusal_text(HIGHVANE_INPUT_TOO_LONG + 1)) == 0,
+            "two numbers of no refusal have two texts");
+    part("texts of the refusals");
 }
 
 void check_names(void) {
@@ -53,4 +68,5 @@ void check_names(void) {
     NAMED(HIGHVANE_INPUT_TOO_LONG, in_text(3, HIGHVANE_INPUT_MAX + 1));
     NAMED(HIGHVANE_ACCEPTED, in_text(3, HIGHVANE_INPUT_MAX));
     part("names and limits of the header");
+    texts();
 }

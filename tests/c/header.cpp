@@ -2,5 +2,6 @@
 #include "highvane.h"
 
 int main() {
-    return highvane_product_unsigned(HIGHVANE_MITCHELL, 8, 0, 3, 3).product == 8 ? 0 : 1;
+    highvane_unsigned accepted = highvane_product_unsigned(HIGHVANE_MITCHELL, 8, 0, 3, 3);
+    return accepted.product == 8 && highvane_refusal_text(accepted.refusal)[0] == 'a' ? 0 : 1;
 }

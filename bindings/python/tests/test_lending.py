@@ -1,0 +1,185 @@
+"""Buffers: what can be lent is lent as it lies, and everything else is an error of Python's that changes nothing."""
+import ctypes
+import mmap
+import random
+import unittest
+from array import array
+
+import highvane
+
+SHORTS, FRAME, LONGS = [3, -5, 0], array('h', [3, 6, 7]), [1, -2, 0]
+
+
+def shorts():
+    """Three numbers in each kind of buffer that can be read."""
+    own = array('h', SHORTS)
+    yield own
+    yield memoryview(own)
+    yield memoryview(own.tobytes()).cast('h')
+    yield memoryview(array('h', [9, *SHORTS, 9]))[1:4]
+    yield (ctypes.c_int16 * 3)(*SHORTS)
+    yield memoryview(bytearray(own.tobytes())).cast('@h')
+    with mmap.mmap(-1, 6) as pages:
+        pages[:] = own.tobytes()
+        with memoryview(pages) as view, view.cast('h') as cast:
+            yield cast
+    yield from numpy_arrays('int16', SHORTS)
+
+
+def longs():
+    """Three places in each kind of buffer that can be written."""
+    own = array('q', [7, 7, 7])
+    yield own
+    yield memoryview(own)
+    yield memoryview(bytearray(24)).cast('q')
+    yield (ctypes.c_int64 * 3)()
+    yield array('l', [7, 7, 7])
+    yield from numpy_arrays('int64', [7, 7, 7])
+
+
+def numpy_arrays(kind, numbers):
+    try:
+        import numpy
+    except ImportError:
+        return
+    yield numpy.array(numbers, dtype=kind)
+    yield numpy.array([numbers, numbers], dtype=kind)[1]
+
+
+def wrong_shorts():
+    """What is no buffer of signed 16-bit numbers that can be lent, each with the error that it raises."""
+    room = bytearray(64)
+    yield None, TypeError
+    yield 3, TypeError
+    yield SHORTS, TypeError
+    yield tuple(SHORTS), TypeError
+    yield 'text', TypeError
+    yield iter(SHORTS), TypeError
+    yield object(), TypeError
+    yield bytes(6), TypeError
+    yield bytearray(6), TypeError
+    for code in 'bBHiIlLqQfd':
+        yield array(code, [1, 2, 3]), TypeError
+    for code in '?cbBH':
+        yield memoryview(bytes(16)).cast(code), TypeError
+    yield ctypes.c_int16(3), ValueError
+    yield (ctypes.c_int16.__ctype_be__ * 3)(), TypeError
+    yield ((ctypes.c_int16 * 2) * 2)(), ValueError
+    yield memoryview(array('h', range(6)))[::2], ValueError
+    yield memoryview(array('h', SHORTS))[::-1], ValueError
+    yield memoryview(room)[1:7].cast('h'), ValueError
+    yield memoryview(bytes(8)).cast('h', (2, 2)), ValueError
+    released = memoryview(array('h', SHORTS))
+    released.release()
+    yield released, ValueError
+
+
+def score(weights, frame, residues):
+    return highvane.score_row(1, 0, weights, frame, residues)
+
+
+class Lending(unittest.TestCase):
+    def test_every_kind_of_buffer(self):
+        for weights in shorts():
+            for residues in longs():
+                report = score(weights, FRAME, residues)
+                self.assertEqual((report.score, list(residues)), (-20, LONGS))
+            self.assertEqual(highvane.row_of(weights, 1, 1).tobytes(), array('h', [-5]).tobytes())
+
+    def test_nothing_is_copied(self):
+        store = array('h', SHORTS)
+        part = highvane.row_of(store, 1, 1)
+        store[1] = 12
+        self.assertEqual(part.tolist(), [12])
+        part[0] = 13
+        self.assertEqual(store[1], 13)
+
+    def test_wrong_weights_frames_and_stores(self):
+        for wrong, error in wrong_shorts():
+            with self.subTest(wrong=wrong):
+                residues = array('q', [7] * 8)
+                self.assertRaises(error, score, wrong, FRAME, residues)
+                self.assertRaises(error, score, FRAME, wrong, residues)
+                self.assertRaises(error, highvane.row_of, wrong, 1, 0)
+                self.assertRaises(error, highvane.row_refusal, wrong, 1, 0)
+                self.assertEqual(residues.tolist(), [7] * 8)
+
+    def test_wrong_residues(self):
+        room = bytearray(64)
+        for wrong, error in [
+            (None, TypeError), ([0, 0, 0], TypeError), (bytearray(24), TypeError), (array('h', [0] * 3), TypeError),
+            (array('i', [0] * 3), TypeError), (array('Q', [0] * 3), TypeError), (array('d', [0] * 3), TypeError),
+            (memoryview(bytes(24)).cast('q'), TypeError), (memoryview(array('q', [0] * 3)).toreadonly(), TypeError),
+            ((ctypes.c_int64.__ctype_be__ * 3)(), TypeError), (memoryview(array('q', [0] * 6))[::2], ValueError),
+            (memoryview(array('q', [0] * 3))[::-1], ValueError), (memoryview(bytearray(48)).cast('q', (2, 3)), ValueError),
+            (memoryview(room)[4:28].cast('q'), ValueError), (ctypes.c_int64(0), ValueError),
+        ]:
+            with self.subTest(wrong=wrong):
+                self.assertRaises(error, score, FRAME, FRAME, wrong)
+        self.assertEqual(room, bytes(64))
+
+    def test_wrong_records(self):
+        for wrong, error in [
+            (None, TypeError), ('1 ok', TypeError), ([3, 255, 255], TypeError), (3, TypeError), (array('h', [3]), TypeError),
+            (array('b', [3]), TypeError), (memoryview(bytes(6))[::2], ValueError), (memoryview(bytes(6)).cast('B', (2, 3)), ValueError),
+        ]:
+            with self.subTest(wrong=wrong):
+                self.assertRaises(error, highvane.transcript, wrong)
+
+    def test_overlap(self):
+        room = memoryview(bytearray(96))
+        places = room[32:56].cast('q')
+        for start in range(0, 90, 2):
+            numbers = room[start:start + 6].cast('h')
+            if start + 6 <= 32 or start >= 56:
+                score(numbers, FRAME, places)
+                score(FRAME, numbers, places)
+            else:
+                self.assertRaisesRegex(ValueError, '^residues must not overlap weights$', score, numbers, FRAME, places)
+                self.assertRaisesRegex(ValueError, '^residues must not overlap frame$', score, FRAME, numbers, places)
+        # an empty slice overlaps nothing, and what is only read may overlap
+        score(room[40:40].cast('h'), array('h'), places)
+        score(FRAME, FRAME, places)
+
+    def test_lengths_are_the_librarys_to_judge(self):
+        long = array('h', [1] * (highvane.PAIRS_MAX + 1))
+        for weights, frame, places, refusal in [(FRAME, FRAME[:2], 3, 5), (long, long, len(long), 6), (FRAME, FRAME, 2, 7)]:
+            residues = array('q', [7] * places)
+            with self.assertRaises(highvane.Refused) as raised:
+                score(weights, frame, residues)
+            self.assertEqual((raised.exception.number, set(residues)), (refusal, {7}))
+        self.assertEqual(score(array('h'), array('h'), array('q')).nonzero_pairs, 0)
+
+    def test_nothing_stays_lent(self):
+        weights, residues, kept = array('h', SHORTS), array('q', [0] * 3), []
+        for call, *arguments in [
+            (score, weights, FRAME, residues), (score, weights, FRAME[:1], residues), (score, weights, None, residues),
+            (score, weights, FRAME, weights), (score, residues, weights, residues), (highvane.row_of, weights, 2, 0),
+        ]:
+            try:
+                call(*arguments)
+            except (highvane.Refused, TypeError) as error:
+                kept.append(error)
+            # an array that is lent cannot grow
+            weights.append(0)
+            weights.pop()
+            residues.append(0)
+            residues.pop()
+        self.assertEqual(len(kept), 5)
+
+    def test_any_arguments(self):
+        """Anything at all in any place gives a result, a refusal, or one of the three errors."""
+        room = memoryview(bytearray(64))
+        things = [None, True, 0, 1, 3, -1, 2**31, 2**63, 2**64, 1.5, 'h', b'', b'\3\1\1', [1], {}, highvane.Design.STAGED, FRAME,
+                  array('q', [0] * 4), room, room[1:9].cast('q'), room[:8].cast('h'), room[8:32].cast('q'), (ctypes.c_int16 * 4)(),
+                  (ctypes.c_int64 * 4)()]
+        calls = [(highvane.unsigned_product, 5), (highvane.signed_product, 5), (highvane.table_product, 2), (highvane.score_row, 5),
+                 (highvane.row_of, 3), (highvane.row_refusal, 3), (highvane.scale, 3), (highvane.single_product, 2),
+                 (highvane.single_product_of_bits, 2), (highvane.transcript, 1)]
+        chosen = random.Random(1)
+        for _ in range(20000):
+            call, count = chosen.choice(calls)
+            try:
+                call(*(chosen.choice(things) for _ in range(count)))
+            except (highvane.Refused, TypeError, ValueError, OverflowError):
+                pass

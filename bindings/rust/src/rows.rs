@@ -1,0 +1,78 @@
+//! Scoring a row of weights.
+
+use crate::refusal::judged;
+use crate::{Design, Refusal, raw};
+
+/// How many pairs a row may have, and columns a weight store.
+///
+/// ```
+/// use highvane::{Design, PAIRS_MAX, Refusal, score_row};
+///
+/// let (numbers, mut residues) = ([1; PAIRS_MAX + 1], [0; PAIRS_MAX + 1]);
+/// let refused = score_row(Design::Mitchell, &numbers, &numbers, &mut residues);
+/// assert_eq!(refused, Err(Refusal::TooManyPairs));
+/// ```
+pub const PAIRS_MAX: usize = 4096;
+
+/// What scoring a row gives.
+///
+/// ```
+/// use highvane::{Design, Report, score_row};
+///
+/// assert_eq!(score_row(Design::Mitchell, &[], &[], &mut []), Ok(Report::default()));
+/// ```
+#[derive(Clone, Copy, Debug, Default, PartialEq, Eq, Hash)]
+#[non_exhaustive]
+pub struct Report {
+    /// The sum of the design's products.
+    pub score: i64,
+    /// The sum of the true products.
+    pub true_sum: i64,
+    /// The true sum less the score.
+    pub error: i64,
+    /// T, the sum of the sizes of the true products.
+    pub magnitude_sum: u64,
+    /// n, how many pairs are without a zero.
+    pub nonzero_pairs: u64,
+}
+
+/// Scores a frame by a row of weights at width 16. Place i of `residues` gets the residue of pair i, its true product less the
+/// design's; the places after the row's are left as they were, and so are all on a refusal. It refuses, in this order: 1, 3, 5, 6, 7.
+///
+/// ```
+/// use highvane::{Design, Refusal, score_row};
+///
+/// let mut residues = [99; 4];
+/// let report = score_row(Design::Mitchell, &[3, -5, 0], &[3, 6, 7], &mut residues)?;
+/// assert_eq!((report.score, report.true_sum, report.error), (-20, -21, -1));
+/// assert_eq!((report.magnitude_sum, report.nonzero_pairs), (39, 2));
+/// assert_eq!(residues, [1, -2, 0, 99]);
+///
+/// let refused = score_row(Design::Mitchell, &[3, -5, 0], &[3, 6], &mut residues);
+/// assert_eq!(refused, Err(Refusal::LengthsDiffer));
+/// # Ok::<(), Refusal>(())
+/// ```
+pub fn score_row(design: Design, weights: &[i16], frame: &[i16], residues: &mut [i64]) -> Result<Report, Refusal> {
+    // SAFETY: each pointer goes with the length of its own slice. The two slices that are read are lent for the call, and the one
+    // that is written is lent to it alone.
+    let answer = unsafe {
+        raw::highvane_score_row(
+            design.number(),
+            design.setting(),
+            weights.as_ptr(),
+            weights.len(),
+            frame.as_ptr(),
+            frame.len(),
+            residues.as_mut_ptr(),
+            residues.len(),
+        )
+    };
+    judged(answer.refusal)?;
+    Ok(Report {
+        score: answer.score,
+        true_sum: answer.true_sum,
+        error: answer.error,
+        magnitude_sum: answer.magnitude_sum,
+        nonzero_pairs: answer.nonzero_pairs,
+    })
+}
