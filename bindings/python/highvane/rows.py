@@ -12,12 +12,13 @@ PAIRS_MAX = 4096
 
 @dataclasses.dataclass(frozen=True)
 class Report:
-    """What scoring a row gives."""
-    score: int          # the sum of the design's products
-    true_sum: int       # the sum of the true products
-    error: int          # the true sum less the score
-    magnitude_sum: int  # T, the sum of the sizes of the true products
-    nonzero_pairs: int  # n, how many pairs are without a zero
+    """What scoring a row gives: the score, which is the sum of the design's products; the sum of the true products; the error, which is the
+    true sum less the score; T, the sum of the sizes of the true products; and n, how many pairs are without a zero."""
+    score: int
+    true_sum: int
+    error: int
+    magnitude_sum: int
+    nonzero_pairs: int
 
 
 def score_row(design, setting, weights, frame, residues):

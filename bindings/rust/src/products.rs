@@ -3,7 +3,11 @@
 use crate::refusal::judged;
 use crate::{Design, Refusal, Width, raw};
 
-/// The design's product of two unsigned numbers of the width. It refuses, in this order: 1, 2, 3, 4.
+/// The design's product of two unsigned numbers of the width.
+///
+/// # Errors
+///
+/// The refusals 1, 2, 3 and 4, in this order.
 ///
 /// ```
 /// use highvane::{Design, Refusal, Width, unsigned_product};
@@ -21,8 +25,11 @@ pub fn unsigned_product(design: Design, width: Width, a: u64, b: u64) -> Result<
     Ok(answer.product)
 }
 
-/// The design's product of two signed numbers of the width: that of their sizes, with a minus sign where their signs differ. It
-/// refuses, in this order: 1, 2, 3, 4.
+/// The design's product of two signed numbers of the width: that of their sizes, with a minus sign where their signs differ.
+///
+/// # Errors
+///
+/// The refusals 1, 2, 3 and 4, in this order.
 ///
 /// ```
 /// use highvane::{Design, Refusal, Width, signed_product};

@@ -37,7 +37,11 @@ pub struct Report {
 }
 
 /// Scores a frame by a row of weights at width 16. Place i of `residues` gets the residue of pair i, its true product less the
-/// design's; the places after the row's are left as they were, and so are all on a refusal. It refuses, in this order: 1, 3, 5, 6, 7.
+/// design's; the places after the row's are left as they were, and so are all on a refusal.
+///
+/// # Errors
+///
+/// The refusals 1, 3, 5, 6 and 7, in this order.
 ///
 /// ```
 /// use highvane::{Design, Refusal, score_row};

@@ -28,7 +28,11 @@ pub struct Scaled {
     pub magnitude_sum: f64,
 }
 
-/// A score and T, each exactly the quotient by 2^shift; that of 0 is +0. It refuses, in this order: 15, 16.
+/// A score and T, each exactly the quotient by 2^shift; that of 0 is +0.
+///
+/// # Errors
+///
+/// The refusals 15 and 16, in this order.
 ///
 /// ```
 /// use highvane::{Refusal, scale};

@@ -3,7 +3,11 @@
 use crate::refusal::judged;
 use crate::{Refusal, raw};
 
-/// Mitchell's product of two binary32 numbers. It refuses, in this order: 8, 9, then 10 and 11 unless an operand is zero.
+/// Mitchell's product of two binary32 numbers.
+///
+/// # Errors
+///
+/// The refusals 8 and 9 and, unless an operand is zero, 10 and 11, in this order.
 ///
 /// ```
 /// use highvane::{Refusal, single_product};
@@ -18,6 +22,10 @@ pub fn single_product(a: f32, b: f32) -> Result<f32, Refusal> {
 }
 
 /// [`single_product`] of two binary32 numbers that are given by their patterns.
+///
+/// # Errors
+///
+/// Those of [`single_product`].
 ///
 /// ```
 /// use highvane::{Refusal, single_product_of_bits};

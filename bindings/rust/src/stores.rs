@@ -4,7 +4,11 @@ use crate::refusal::judged;
 use crate::{Refusal, raw};
 
 /// The row of that number, counted from 0, as the part of the store where it lies: a store is its rows in order, `columns` weights
-/// each. It refuses, in this order: 12, 13, 14.
+/// each.
+///
+/// # Errors
+///
+/// The refusals 12, 13 and 14, in this order.
 ///
 /// ```
 /// use highvane::{Refusal, row_of};
