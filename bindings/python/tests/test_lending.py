@@ -6,6 +6,7 @@ import unittest
 from array import array
 
 import highvane
+from highvane._lent import _Buffer
 
 SHORTS, FRAME, LONGS = [3, -5, 0], array('h', [3, 6, 7]), [1, -2, 0]
 
@@ -44,6 +45,13 @@ def numpy_arrays(kind, numbers):
         return
     yield numpy.array(numbers, dtype=kind)
     yield numpy.array([numbers, numbers], dtype=kind)[1]
+
+
+def view_of(memory, code, size):
+    """A view of memory with a format that no cast of Python's own gives; it lives no longer than the memory."""
+    start = ctypes.addressof(ctypes.c_char.from_buffer(memory))
+    make = ctypes.PYFUNCTYPE(ctypes.py_object, ctypes.POINTER(_Buffer))(('PyMemoryView_FromBuffer', ctypes.pythonapi))
+    return make(_Buffer(buf=start, len=len(memory), itemsize=size, ndim=1, format=code))
 
 
 def wrong_shorts():
@@ -106,8 +114,12 @@ class Lending(unittest.TestCase):
 
     def test_wrong_residues(self):
         room = bytearray(64)
+        # eight bytes an item, or four: 'l' alone does not say
+        self.assertEqual(score(FRAME, FRAME, view_of(room, b'<l', 8)).error, 6)
+        room[:] = bytes(64)
         for wrong, error in [
-            (None, TypeError), ([0, 0, 0], TypeError), (bytearray(24), TypeError), (array('h', [0] * 3), TypeError),
+            (view_of(room, b'<l', 4), TypeError), (view_of(room, b'>q', 8), TypeError), (view_of(room, b'qq', 8), TypeError),
+            (view_of(room, b'', 8), TypeError), (None, TypeError), ([0, 0, 0], TypeError), (bytearray(24), TypeError), (array('h', [0] * 3), TypeError),
             (array('i', [0] * 3), TypeError), (array('Q', [0] * 3), TypeError), (array('d', [0] * 3), TypeError),
             (memoryview(bytes(24)).cast('q'), TypeError), (memoryview(array('q', [0] * 3)).toreadonly(), TypeError),
             ((ctypes.c_int64.__ctype_be__ * 3)(), TypeError), (memoryview(array('q', [0] * 6))[::2], ValueError),
