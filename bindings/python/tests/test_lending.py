@@ -55,31 +55,40 @@ def view_of(memory, code, size):
 
 
 def wrong_shorts():
-    """What is no buffer of signed 16-bit numbers that can be lent, each with the error that it raises."""
-    room = bytearray(64)
-    yield None, TypeError
-    yield 3, TypeError
-    yield SHORTS, TypeError
-    yield tuple(SHORTS), TypeError
-    yield 'text', TypeError
-    yield iter(SHORTS), TypeError
-    yield object(), TypeError
-    yield bytes(6), TypeError
-    yield bytearray(6), TypeError
-    for code in 'bBHiIlLqQfd':
-        yield array(code, [1, 2, 3]), TypeError
-    for code in '?cbBH':
-        yield memoryview(bytes(16)).cast(code), TypeError
-    yield ctypes.c_int16(3), ValueError
-    yield (ctypes.c_int16.__ctype_be__ * 3)(), TypeError
-    yield ((ctypes.c_int16 * 2) * 2)(), ValueError
-    yield memoryview(array('h', range(6)))[::2], ValueError
-    yield memoryview(array('h', SHORTS))[::-1], ValueError
-    yield memoryview(room)[1:7].cast('h'), ValueError
-    yield memoryview(bytes(8)).cast('h', (2, 2)), ValueError
+    """What is no buffer of signed 16-bit numbers that can be lent, by the error that it raises."""
     released = memoryview(array('h', SHORTS))
     released.release()
-    yield released, ValueError
+    return {
+        TypeError: [
+            None, 3, SHORTS, tuple(SHORTS), 'text', iter(SHORTS), object(), bytes(6), bytearray(6), (ctypes.c_int16.__ctype_be__ * 3)(),
+            *(array(code, [1, 2, 3]) for code in 'bBHiIlLqQfd'), *(memoryview(bytes(16)).cast(code) for code in '?cbBH'),
+        ],
+        ValueError: [
+            ctypes.c_int16(3), ((ctypes.c_int16 * 2) * 2)(), memoryview(array('h', range(6)))[::2], memoryview(array('h', SHORTS))[::-1],
+            memoryview(bytearray(64))[1:7].cast('h'), memoryview(bytes(8)).cast('h', (2, 2)), released,
+        ],
+    }
+
+
+def wrong_longs(room):
+    """What is no buffer of signed 64-bit numbers that can be written, by the error that it raises. Some are views of the room."""
+    return {
+        TypeError: [
+            None, [0, 0, 0], bytearray(24), (ctypes.c_int64.__ctype_be__ * 3)(), *(array(code, [0] * 3) for code in 'hiIQd'),
+            memoryview(bytes(24)).cast('q'), memoryview(array('q', [0] * 3)).toreadonly(),
+            view_of(room, b'<l', 4), view_of(room, b'>q', 8), view_of(room, b'qq', 8), view_of(room, b'', 8),
+        ],
+        ValueError: [
+            ctypes.c_int64(0), memoryview(array('q', [0] * 6))[::2], memoryview(array('q', [0] * 3))[::-1],
+            memoryview(bytearray(48)).cast('q', (2, 3)), memoryview(room)[4:28].cast('q'),
+        ],
+    }
+
+
+WRONG_RECORDS = {
+    TypeError: [None, '1 ok', [3, 255, 255], 3, array('h', [3]), array('b', [3])],
+    ValueError: [memoryview(bytes(6))[::2], memoryview(bytes(6)).cast('B', (2, 3))],
+}
 
 
 def score(weights, frame, residues):
@@ -102,41 +111,29 @@ class Lending(unittest.TestCase):
         part[0] = 13
         self.assertEqual(store[1], 13)
 
+    def see(self, things, *calls):
+        """Each call raises the error that is due for each thing."""
+        for error, wrongs in things.items():
+            for wrong in wrongs:
+                for call in calls:
+                    with self.subTest(wrong=wrong):
+                        self.assertRaises(error, call, wrong)
+
     def test_wrong_weights_frames_and_stores(self):
-        for wrong, error in wrong_shorts():
-            with self.subTest(wrong=wrong):
-                residues = array('q', [7] * 8)
-                self.assertRaises(error, score, wrong, FRAME, residues)
-                self.assertRaises(error, score, FRAME, wrong, residues)
-                self.assertRaises(error, highvane.row_of, wrong, 1, 0)
-                self.assertRaises(error, highvane.row_refusal, wrong, 1, 0)
-                self.assertEqual(residues.tolist(), [7] * 8)
+        residues = array('q', [7] * 8)
+        self.see(wrong_shorts(), lambda wrong: score(wrong, FRAME, residues), lambda wrong: score(FRAME, wrong, residues),
+                 lambda wrong: highvane.row_of(wrong, 1, 0), lambda wrong: highvane.row_refusal(wrong, 1, 0))
+        self.assertEqual(residues.tolist(), [7] * 8)
 
     def test_wrong_residues(self):
         room = bytearray(64)
-        # eight bytes an item, or four: 'l' alone does not say
-        self.assertEqual(score(FRAME, FRAME, view_of(room, b'<l', 8)).error, 6)
-        room[:] = bytes(64)
-        for wrong, error in [
-            (view_of(room, b'<l', 4), TypeError), (view_of(room, b'>q', 8), TypeError), (view_of(room, b'qq', 8), TypeError),
-            (view_of(room, b'', 8), TypeError), (None, TypeError), ([0, 0, 0], TypeError), (bytearray(24), TypeError), (array('h', [0] * 3), TypeError),
-            (array('i', [0] * 3), TypeError), (array('Q', [0] * 3), TypeError), (array('d', [0] * 3), TypeError),
-            (memoryview(bytes(24)).cast('q'), TypeError), (memoryview(array('q', [0] * 3)).toreadonly(), TypeError),
-            ((ctypes.c_int64.__ctype_be__ * 3)(), TypeError), (memoryview(array('q', [0] * 6))[::2], ValueError),
-            (memoryview(array('q', [0] * 3))[::-1], ValueError), (memoryview(bytearray(48)).cast('q', (2, 3)), ValueError),
-            (memoryview(room)[4:28].cast('q'), ValueError), (ctypes.c_int64(0), ValueError),
-        ]:
-            with self.subTest(wrong=wrong):
-                self.assertRaises(error, score, FRAME, FRAME, wrong)
+        self.see(wrong_longs(room), lambda wrong: score(FRAME, FRAME, wrong))
         self.assertEqual(room, bytes(64))
+        # a format of 'l' alone does not say how long its items are
+        self.assertEqual(score(FRAME, FRAME, view_of(room, b'<l', 8)).error, 6)
 
     def test_wrong_records(self):
-        for wrong, error in [
-            (None, TypeError), ('1 ok', TypeError), ([3, 255, 255], TypeError), (3, TypeError), (array('h', [3]), TypeError),
-            (array('b', [3]), TypeError), (memoryview(bytes(6))[::2], ValueError), (memoryview(bytes(6)).cast('B', (2, 3)), ValueError),
-        ]:
-            with self.subTest(wrong=wrong):
-                self.assertRaises(error, highvane.transcript, wrong)
+        self.see(WRONG_RECORDS, highvane.transcript)
 
     def test_overlap(self):
         room = memoryview(bytearray(96))

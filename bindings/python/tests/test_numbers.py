@@ -1,6 +1,5 @@
 """Whole numbers: each parameter takes all that its C type holds, and everything else is an error of Python's."""
 import enum
-import itertools
 import unittest
 from array import array
 
@@ -18,7 +17,7 @@ def found(call):
     return lambda columns, row: call(STORE, columns, row)
 
 
-# of each function the parameters that are whole numbers, with the limits of their types and arguments that are accepted
+# of each function the parameters that are whole numbers, with the limits of their types, and arguments that are accepted
 FUNCTIONS = [
     (highvane.unsigned_product, {'design': U32, 'width': U32, 'setting': U32, 'a': U64, 'b': U64}, (1, 8, 0, 3, 3)),
     (highvane.signed_product, {'design': U32, 'width': U32, 'setting': U32, 'a': I64, 'b': I64}, (1, 8, 0, 3, 3)),
@@ -29,6 +28,13 @@ FUNCTIONS = [
     (highvane.scale, {'score': I64, 'magnitude_sum': U64, 'shift': U32}, (3, 3, 1)),
     (highvane.single_product_of_bits, {'a': U32, 'b': U32}, (0x3FC00000, 0x3FC00000)),
 ]
+
+
+def parameters():
+    """Each parameter: its name, its limits, the function with all other arguments, and what is accepted there."""
+    for function, limits, accepted in FUNCTIONS:
+        for at, (name, ends) in enumerate(limits.items()):
+            yield name, ends, lambda number: function(*accepted[:at], number, *accepted[at + 1:]), accepted[at]
 
 
 class Index:
@@ -42,27 +48,20 @@ class Index:
 
 
 class Numbers(unittest.TestCase):
-    def each(self):
-        for (call, limits, accepted), at in itertools.product(FUNCTIONS, range(5)):
-            if at < len(accepted):
-                name = list(limits)[at]
-                with self.subTest(call=call, parameter=name):
-                    yield name, limits[name], lambda number: call(*accepted[:at], number, *accepted[at + 1:]), accepted[at]
-
     def test_no_whole_number(self):
-        for name, _, call, _ in self.each():
+        for name, _, call, _ in parameters():
             for wrong in (True, False, None, 1.0, float('nan'), 1j, '1', b'1', [1], (1,), array('h', [1]), object(), int):
-                with self.assertRaisesRegex(TypeError, f'^{name} must be a whole number, not'):
+                with self.assertRaisesRegex(TypeError, f'^{name} must be a whole number, not', msg=wrong):
                     call(wrong)
 
     def test_beyond_the_type(self):
-        for name, (least, most), call, _ in self.each():
+        for name, (least, most), call, _ in parameters():
             for wrong in (least - 1, most + 1, -2**64, 2**64, -2**63 - 1, 2**64 + 1, 10**5000, -10**5000):
                 with self.assertRaisesRegex(OverflowError, f'^{name} must be {least} to {most}$'):
                     call(wrong)
 
     def test_at_the_ends_of_the_type(self):
-        for _, ends, call, _ in self.each():
+        for _, ends, call, _ in parameters():
             for end in ends:
                 try:
                     call(end)
@@ -70,15 +69,15 @@ class Numbers(unittest.TestCase):
                     self.assertIn(refused.refusal, highvane.Refusal)
 
     def test_other_types_of_whole_numbers(self):
-        for _, _, call, accepted in self.each():
+        for _, _, call, accepted in parameters():
             number = enum.IntEnum('Numbers', {'THE': accepted})
             self.assertEqual(call(Index(accepted)), call(accepted))
             self.assertEqual(call(number.THE), call(accepted))
 
     def test_number_of_arguments(self):
-        for call, _, accepted in FUNCTIONS:
+        for function, _, accepted in FUNCTIONS:
             for wrong in (accepted[1:], (*accepted, 0)):
-                self.assertRaises(TypeError, call, *wrong)
+                self.assertRaises(TypeError, function, *wrong)
 
 
 class Floats(unittest.TestCase):

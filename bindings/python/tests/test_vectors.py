@@ -48,7 +48,8 @@ def row(numbers):
     refusal, report = outcome(highvane.score_row, design, setting, weights, frame, residues)
     written = len(weights) if report else 0
     assert residues[written:] == before[written:], 'a later place of the residues is another'
-    return [refusal, *(dataclasses.astuple(report) if report else [0] * 5), written, *residues[:written]]
+    fields = dataclasses.astuple(report) if report else [0] * len(dataclasses.fields(highvane.Report))
+    return [refusal, *fields, written, *residues[:written]]
 
 
 def store(numbers):
