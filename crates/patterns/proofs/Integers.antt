@@ -29,10 +29,6 @@ pub sized : (x : ℤ) → natAbs x < 2 ^ 31 → SFits w32 x
 sized (pos n) h = record { sfits = h }
 sized (negsuc n) h = record { sfits = omega arith }
 
--- a result that is equal to a number that fits
-pub read-as : {x y : ℤ} → x ≡ y → SFits w32 y → toZ w32 (ofZ w32 x) ≡ y
-read-as e h = rw e (toZ-ofZ h)
-
 -- a callee's result
 pub read-back : {x y : ℤ} → mag x < 2 ^ 31 → x ≡ y → toZ w32 (ofZ w32 x) ≡ y
 read-back h e = toZ-ofZ (record { sfits = h }) ∙ e

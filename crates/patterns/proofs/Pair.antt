@@ -1,14 +1,15 @@
 -- The pattern of a pair's product. A logarithm of the design's product, with the sign that both numbers give, stands for the signed
 -- product, and a masked zero for 0; the difference to the true product is the residue, of at most 31 bits. Assumes nothing.
-use mathlib.Core.Path.{_≡_, refl, sym}
+use mathlib.Core.Path.{_≡_, refl, sym, ap, _∙_}
 use Prim.Native.Nat.{ℕ, zero, suc, _+_, _*_, _%_, _^_, _<_}
 use native.Mathlib.Nat.{mul-le-mul}
 use native.Mathlib.Omega.{arith}
 use mathlib.Core.Bool.{Bool, true, false}
 use lib.Ieee.{unlike}
-use lib.IntN.{ℤ, pos, negsuc, natAbs, _*ℤ_}
+use lib.IntN.{ℤ, pos, negsuc, natAbs, _-ℤ_, _*ℤ_}
+use lib.Signed.{mag}
 use mir.Syntax.{w16, w32}
-use mir.Val.{SFits}
+use mir.Val.{SFits, toZ, ofZ}
 use Rattle.designs.specs.Codes.{code, scaledProduct}
 use Rattle.designs.specs.Designs.{Design, KeepsBit, formula, product, unlessZero}
 use Rattle.designs.specs.Rows.{nonzero}
@@ -18,7 +19,7 @@ use Rattle.designs.proofs.Sizes.{sign-dist, size-true, true-is}
 use Rattle.designs.proofs.Widths.{size-lt}
 use Rattle.designs.proofs.Zeros.{product-is, zero-product}
 use Rattle.patterns.specs.Patterns.{Less, logPattern, maskedBy, patternOf, Stands}
-use Rattle.patterns.proofs.Integers.{size16, sized}
+use Rattle.patterns.proofs.Integers.{read-back, size16, sized}
 use Rattle.patterns.proofs.Values.{nothing, stands}
 
 no-sign : (s : Bool) → withSign s 0 ≡ pos 0
@@ -89,6 +90,11 @@ module _ (D : Design) (k : KeepsBit D) {w x : ℤ} (hw : SFits w16 w) (hx : SFit
       go : (n : ℕ) → n ≡ A * B → Stands (unlessZero n 1 p) (signedProduct D w x)
       go zero e = rw (zero-product D A B (sym e), no-sign sign) nothing
       go (suc n) e = let b = both A B n (sym e) in some (b .0) (b .1)
+
+-- a true product less the design's, read back from a callee's result
+pub residue-is : (D : Design) (w x : ℤ) {r z : ℤ} → mag r < 2 ^ 31 → r ≡ z -ℤ signedProduct D w x → z ≡ w *ℤ x → toZ w32 (ofZ w32 r) ≡ residue D w x
+unfolding residue
+residue-is D w x ok e truth = read-back ok e ∙ ap (λ (z : ℤ). z -ℤ signedProduct D w x) truth
 
 -- the sum of two patterns less that of 1, modulo 2^32
 pub log-sum : (s t : Bool) (a b r : ℕ) → r < 2 ^ 32 → a + b < 2 ^ 30

@@ -2,14 +2,15 @@
 use borrow.Author.Needs.{needs}
 use mathlib.Core.Path.{_≡_, ap, ap₂, _∙_}
 use Prim.Native.Nat.{ℕ, _+_, _%_, _^_}
-use lib.IntN.{ℤ, _-ℤ_, _*ℤ_}
+use lib.IntN.{ℤ, _*ℤ_}
 use mir.Syntax.{w32}
 use mir.Val.{toZ, ofZ}
 use mir.Facts.{toZ-ofZ}
 use Rattle.designs.specs.Designs.{mitchell}
-use Rattle.designs.specs.Signs.{residue, signedProduct}
+use Rattle.designs.specs.Signs.{signedProduct}
 use Rattle.patterns.specs.Patterns.{Less, patternOf}
-use Rattle.patterns.proofs.Integers.{read-back, read-true}
+use Rattle.patterns.proofs.Integers.{read-true}
+use Rattle.patterns.proofs.Pair.{residue-is}
 use Rattle.patterns.proofs.Mitchell.{mitchell-less}
 use Rattle.patterns.proofs.mitchell_residue.Statement.{statement}
 use Rattle.patterns.proofs.mitchell_residue.Tie as tie
@@ -36,11 +37,9 @@ residue-by-requires : tie.Need-residue-by-requires
 residue-by-requires c κs = (_, less c)
 
 returns : tie.Need-returns
-unfolding residue
 returns c =
     let b = c .before in
-    read-back (c .residue-by .ok) (c .residue-by .ensures _ (less b))
-    ∙ ap (λ (z : ℤ). z -ℤ signedProduct mitchell (start b .args .w) (start b .args .x)) (truth b)
+    residue-is mitchell (start b .args .w) (start b .args .x) (c .residue-by .ok) (c .residue-by .ensures _ (less b)) (truth b)
 
 pub mitchell-residue-spec : {M : Type 1} → statement M
 mitchell-residue-spec =

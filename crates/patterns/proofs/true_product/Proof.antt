@@ -1,8 +1,8 @@
 -- Two numbers of 16 bits, widened, have a product of at most 2^30 in size. Assumes nothing.
 use mathlib.Core.Path.{ap₂}
 use lib.IntN.{_*ℤ_}
-use Rattle.signs.proofs.Integers.{fits-as}
-use Rattle.patterns.proofs.Integers.{read-as, true-fits, widened, widens}
+use Rattle.signs.proofs.Integers.{fits-as, read-as}
+use Rattle.patterns.proofs.Integers.{true-fits, widened, widens}
 use Rattle.patterns.proofs.true_product.Statement.{statement}
 use Rattle.patterns.proofs.true_product.Tie as tie
 

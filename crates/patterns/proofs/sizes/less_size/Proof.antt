@@ -1,9 +1,7 @@
 -- What is taken off has the sign of z and at most its size, so what is left has at most that size too. Assumes nothing.
 use borrow.Author.Needs.{needs}
 use mathlib.Core.Path.{_≡_, refl, sym, ap, _∙_}
-use Prim.Native.Nat.{_^_, _<_}
 use native.Mathlib.Omega.{arith}
-use mathlib.Core.Bool.{true, false}
 use lib.IntN.{ℤ, pos, natAbs, _+ℤ_, _-ℤ_, negℤ-negℤ}
 use mir.Syntax.{w32}
 use mir.Val.{SFits, toZ, ofZ}
@@ -12,8 +10,8 @@ use Rattle.designs.specs.Signs.{negative, withSign}
 use Rattle.designs.proofs.Distance.{within-dist}
 use Rattle.designs.proofs.SignedGaps.{own-sign}
 use Rattle.designs.proofs.Sizes.{sign-dist}
-use Rattle.signs.proofs.Integers.{fits-as, tested}
-use Rattle.patterns.proofs.Integers.{read-as, sized}
+use Rattle.signs.proofs.Integers.{fits-as, read-as, tested}
+use Rattle.patterns.proofs.Integers.{sized}
 use Rattle.patterns.proofs.sizes.less_size.Statement.{statement}
 use Rattle.patterns.proofs.sizes.less_size.Tie as tie
 

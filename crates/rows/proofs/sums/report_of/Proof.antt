@@ -1,13 +1,13 @@
 -- Both sums are below 2^62 in size, so their difference fits. Assumes nothing.
 use borrow.Author.Needs.{needs}
-use mathlib.Core.Path.{_≡_, refl, ap, _∙_}
+use mathlib.Core.Path.{_≡_, refl}
 use native.Mathlib.Omega.{arith}
 use lib.IntN.{ℤ, negℤ, _-ℤ_}
 use mir.Syntax.{w64}
 use mir.Val.{SFits, toZ, ofZ}
 use mir.Facts.{toZ-ofZ}
 use Rattle.designs.proofs.Sizes.{size-add, size-neg}
-use Rattle.signs.proofs.Integers.{fits-as, sized}
+use Rattle.signs.proofs.Integers.{fits-as, read-as, sized}
 use Rattle.rows.proofs.sums.report_of.Statement.{statement}
 use Rattle.rows.proofs.sums.report_of.Tie as tie
 
@@ -33,7 +33,7 @@ module _ (c : tie.Start) where
 returns : tie.Need-returns
 returns c =
     let s = c .before .before .before .before in
-    rw (ap (λ (y : ℤ). toZ w64 (ofZ w64 y)) (score-is s) ∙ toZ-ofZ (score-fits s), t-read s, e-read s) refl
+    rw (read-as (score-is s) (score-fits s), t-read s, e-read s) refl
 
 pub report-of-spec : {M : Type 1} → statement M
 report-of-spec =

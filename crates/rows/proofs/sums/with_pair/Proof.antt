@@ -10,7 +10,7 @@ use mir.Facts.{toZ-ofZ, sfits-widen}
 use Rattle.designs.specs.Rows.{nonzero}
 use Rattle.designs.proofs.Sizes.{size-add}
 use Rattle.patterns.proofs.Integers.{true-size}
-use Rattle.signs.proofs.Integers.{fits-as, sized}
+use Rattle.signs.proofs.Integers.{fits-as, read-as, sized}
 use Rattle.rows.specs.declared.sums.Sums.{Sums}
 use Rattle.rows.proofs.Turn.{counts-once}
 use Rattle.rows.proofs.sums.with_pair.Statement.{statement}
@@ -75,7 +75,7 @@ returns c =
     let counts = c .before in
     let b = first counts in
     let size = counts .before .before .true-size .ensures ∙ ap₂ (λ (w x : ℤ). natAbs (w *ℤ x)) (toZ-ofZ (start b .fits .w)) (toZ-ofZ (start b .fits .x)) in
-    equal (rw (true-is b) (toZ-ofZ (true-fits b))) (rw (error-is b) (toZ-ofZ (error-fits b))) (ap (λ (k : ℕ). sums b .«magnitude_sum» + k) size) (ap (λ (k : ℕ). sums b .«nonzero_pairs» + k) (counted counts))
+    equal (read-as (true-is b) (true-fits b)) (read-as (error-is b) (error-fits b)) (ap (λ (k : ℕ). sums b .«magnitude_sum» + k) size) (ap (λ (k : ℕ). sums b .«nonzero_pairs» + k) (counted counts))
 
 pub with-pair-spec : {M : Type 1} → statement M
 with-pair-spec =
