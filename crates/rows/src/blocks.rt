@@ -11,6 +11,10 @@ ghost use Rattle.patterns.specs.Patterns.{clamped};
 // The most pairs of a block.
 pub(crate) const BLOCK: usize = 32;
 
+// What a place of a block holds before it is filled. The bytes of this number differ: equal ones, as those of 0 are, the compiler would set
+// by a call of a C function, which the archive has not.
+pub(crate) const UNSET: i32 = 258;
+
 // Fewer pairs than these take less time one by one than by stages over a block.
 const FEW: usize = 4;
 
@@ -120,7 +124,7 @@ fn fill_staged(
     requires { ⌜ (Inside (now weights) (now frame) (now block) from count × (count ≤ 32)) ⌝ }
     ensures { λ r. ⌜ Filled (staged stages) (now (weights .entry)) (now (frame .entry)) from count (now (block .exit)) ⌝ }
 {
-    let mut other = [258i32; BLOCK];
+    let mut other = [UNSET; BLOCK];
     let end = from + count;
     patterns::stages_left(stages, &weights[from..end], block);
     patterns::stages_left(stages, &frame[from..end], &mut other[..]);

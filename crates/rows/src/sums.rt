@@ -7,6 +7,7 @@ ghost use Rattle.rows.specs.Answers.{Ready, reportOf, Summed};
 ghost use Rattle.rows.specs.Blocks.{Addable, BlockLength, Reached, reportBy, Roomy, withPair};
 use crate::RowReport;
 use crate::blocks::BLOCK;
+use crate::blocks::UNSET;
 
 // The sums of some pairs. Their number has 32 bits, so that the compiler counts four pairs at a time.
 struct Sums {
@@ -34,8 +35,7 @@ pub(crate) fn accumulate(
         magnitude_sum: 0,
         nonzero_pairs: 0,
     };
-    // a number whose bytes differ: the compiler would set equal bytes, as those of 0 are, by a call of a C function
-    let mut block = [258i32; BLOCK];
+    let mut block = [UNSET; BLOCK];
     let mut at = 0;
     while at < weights.len() {
         let count = block_length(weights.len() - at);
