@@ -17,8 +17,9 @@ import sys
 
 # every multiply of x86-64: mul, imul, mulx, and the vector ones (pmuludq, vpmulld, mulps, ..)
 MULTIPLY = re.compile(r'v?p?i?mul\w*|v?pmadd\w*|vf[n]?m(?:add|sub)\w*')
-# how many a function may have: a row's true products and residues, of which a vector takes up to three; a decimal's division by ten
-ALLOWED = {'highvane_score_row': 17, 'transcripts::writers::put_number': 1}
+# how many a function may have: a row's true products and residues, of which a vector takes up to three, and the true products of few
+# staged pairs; a decimal's division by ten
+ALLOWED = {'highvane_score_row': 19, 'transcripts::writers::put_number': 1}
 # sections that a program writes, or that run before it; and constants, with how many bytes they may have
 DATA = re.compile(r'\.(data|bss|tdata|tbss|init_array|fini_array)\b')
 CONSTANTS = re.compile(r'\.rodata\b')
