@@ -18,6 +18,8 @@
 
 use core::mem::offset_of;
 
+use crate::Report;
+
 /// The answer of [`highvane_product_unsigned`].
 ///
 /// ```
@@ -48,26 +50,17 @@ pub struct Signed {
     pub refusal: u32,
 }
 
-/// The answer of [`highvane_score_row`]: a [`Report`](crate::Report) and the refusal.
+/// The answer of [`highvane_score_row`]. A struct in a struct lies in memory as C's flat one does.
 ///
 /// ```
-/// let report = highvane::raw::Report::default();
-/// assert_eq!((report.score, report.refusal), (0, 0));
+/// let answer = highvane::raw::ScoredRow::default();
+/// assert_eq!((answer.report.score, answer.refusal), (0, 0));
 /// ```
 #[repr(C)]
 #[derive(Clone, Copy, Debug, Default, PartialEq, Eq, Hash)]
-#[non_exhaustive]
-pub struct Report {
-    /// The sum of the design's products.
-    pub score: i64,
-    /// The sum of the true products.
-    pub true_sum: i64,
-    /// The true sum less the score.
-    pub error: i64,
-    /// T, the sum of the sizes of the true products.
-    pub magnitude_sum: u64,
-    /// n, how many pairs are without a zero.
-    pub nonzero_pairs: u64,
+pub struct ScoredRow {
+    /// The report.
+    pub report: Report,
     /// The refusal's number, or 0.
     pub refusal: u32,
 }
@@ -109,10 +102,11 @@ const _: () = {
     assert!(size_of::<usize>() == 8);
     assert!(size_of::<Unsigned>() == 16 && offset_of!(Unsigned, refusal) == 8);
     assert!(size_of::<Signed>() == 16 && offset_of!(Signed, refusal) == 8);
-    assert!(size_of::<Report>() == 48 && offset_of!(Report, refusal) == 40);
+    assert!(size_of::<ScoredRow>() == 48 && offset_of!(ScoredRow, refusal) == 40);
+    assert!(size_of::<Report>() == 40 && offset_of!(Report, magnitude_sum) == 24);
     assert!(size_of::<Scaled>() == 24 && offset_of!(Scaled, refusal) == 16);
     assert!(size_of::<Single>() == 8 && offset_of!(Single, refusal) == 4);
-    assert!(align_of::<Report>() == 8 && align_of::<Single>() == 4);
+    assert!(align_of::<ScoredRow>() == 8 && align_of::<Single>() == 4);
 };
 
 // SAFETY: these are the archive's functions with the types of its C interface. The safe ones take and give plain numbers, and
@@ -145,7 +139,7 @@ unsafe extern "C" {
     /// ```
     /// let (weights, frame, mut residues) = ([3, -5, 0], [3, 6, 7], [0; 3]);
     /// // SAFETY: each pointer goes with the length of its own array.
-    /// let report = unsafe {
+    /// let answer = unsafe {
     ///     highvane::raw::highvane_score_row(
     ///         1,
     ///         0,
@@ -157,7 +151,7 @@ unsafe extern "C" {
     ///         3,
     ///     )
     /// };
-    /// assert_eq!((report.score, report.error, report.refusal), (-20, -1, 0));
+    /// assert_eq!((answer.report.score, answer.report.error, answer.refusal), (-20, -1, 0));
     /// assert_eq!(residues, [1, -2, 0]);
     /// ```
     pub fn highvane_score_row(
@@ -169,7 +163,7 @@ unsafe extern "C" {
         frame_len: usize,
         residues: *mut i64,
         residues_len: usize,
-    ) -> Report;
+    ) -> ScoredRow;
 
     /// Whether a store has a row: 0, and then the row is the `columns` weights from `store + row * columns` on, or the refusal that
     /// [`row_of`](crate::row_of) gives.

@@ -21,6 +21,7 @@ pub const PAIRS_MAX: usize = 4096;
 ///
 /// assert_eq!(score_row(Design::Mitchell, &[], &[], &mut []), Ok(Report::default()));
 /// ```
+#[repr(C)]
 #[derive(Clone, Copy, Debug, Default, PartialEq, Eq, Hash)]
 #[non_exhaustive]
 pub struct Report {
@@ -72,11 +73,5 @@ pub fn score_row(design: Design, weights: &[i16], frame: &[i16], residues: &mut 
         )
     };
     judged(answer.refusal)?;
-    Ok(Report {
-        score: answer.score,
-        true_sum: answer.true_sum,
-        error: answer.error,
-        magnitude_sum: answer.magnitude_sum,
-        nonzero_pairs: answer.nonzero_pairs,
-    })
+    Ok(answer.report)
 }
