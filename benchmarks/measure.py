@@ -76,6 +76,18 @@ def counts(program, functions, lines):
     return found, printed
 
 
+def run_bytes(program, name, calls):
+    """How many bytes of a function's code some calls of it run, those of instructions that are run once or more."""
+    code = Code(program)
+    start = code.reached(name)[0]
+    with tempfile.TemporaryDirectory() as dumps:
+        lines = ''.join(f'{name} uniform {" ".join(map(str, call))}\n' for call in calls)
+        valgrind = ['valgrind', '-q', '--tool=callgrind', '--dump-instr=yes', '--compress-pos=no', f'--callgrind-out-file={dumps}/dump']
+        output([*valgrind, f'--toggle-collect={name}', program], input=lines)
+        run = {int(at, 16) for dump in Path(dumps).iterdir() for at in re.findall(r'^0x([0-9a-f]+) ', dump.read_text(), re.M)}
+    return sum(size for at, size in code.lengths(start) if at in run)
+
+
 def times(program, calls):
     """Nanoseconds of a call, by its design, setting and pairs and by the name of the implementation."""
     printed = output([program, 'time'], input=''.join(f'{" ".join(map(str, call))}\n' for call in calls))
@@ -125,6 +137,12 @@ class Code:
     def instructions(self, start):
         size, _ = self.functions[start]
         return [self.text[at] for at in range(start, start + size) if at in self.text]
+
+    def lengths(self, start):
+        """The address and the bytes of each instruction of a function."""
+        end = start + self.functions[start][0]
+        places = [at for at in range(start, end) if at in self.text]
+        return [(at, after - at) for at, after in zip(places, [*places[1:], end])]
 
     def sizes(self, name):
         """For a function and each that it calls: its name, its bytes, and how often it reads a constant."""

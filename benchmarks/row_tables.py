@@ -1,5 +1,5 @@
 """The tables of scored rows, each as its head and its lines, and where there are several, each with its title first."""
-from measure import BEST_ROWS, C_ROWS, OURS, ROWS, Code, times
+from measure import BEST_ROWS, C_ROWS, OURS, ROWS, Code, run_bytes, times
 
 PAIRS = 4096
 DESIGNS = {(1, 0): '1', (2, 0): '2', (3, 1): '3, s = 1', (3, 2): '3, s = 2', (3, 4): '3, s = 4', (3, 16): '3, s = 16',
@@ -127,3 +127,13 @@ def code_table(program):
         parts = ', '.join(f'`{symbol}` {size:,}' for symbol, size, _ in sizes) if len(sizes) > 1 else ''
         body.append([title, number(total), f'{ours / total:.2f}', str(sum(reads for *_, reads in sizes)), parts])
     return ['row', 'bytes', 'ours / this', 'reads of constants', 'parts'], body
+
+
+def design_code_table(program):
+    """What a row of each design runs of the code: of a long one with pairs left over from the last four, and of a short one."""
+    names = [OURS, *MASKED[:1]]
+    body = []
+    for design, setting in {1: 0, 2: 0, 3: 2, 4: 6}.items():
+        calls = [(design, setting, pairs, pairs, pairs) for pairs in (3, PAIRS - 1)]
+        body.append([str(design), *(number(run_bytes(program, name, calls)) for name in names)])
+    return ['design', *(COLUMNS[name] for name in names)], body

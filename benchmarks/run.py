@@ -14,8 +14,8 @@ from pathlib import Path
 sys.dont_write_bytecode = True  # nothing is to appear in the repository
 
 from measure import ALL_ROWS, HERE, ROWS, build, counts, output  # noqa: E402
-from row_tables import (DESIGNS, Rows, code_table, growth_tables, number, pair_tables, refusal_table,  # noqa: E402
-                        stage_table, time_tables, wrong_table)
+from row_tables import (DESIGNS, Rows, code_table, design_code_table, growth_tables, number, pair_tables,  # noqa: E402
+                        refusal_table, stage_table, time_tables, wrong_table)
 
 OPERATIONS = {'unsigned': 'product_unsigned', 'signed': 'product_signed', 'single': 'single_product', 'table': 'table_product',
               'scale': 'scale', 'row_refusal': 'row_refusal', 'transcript': 'transcript'}
@@ -88,6 +88,8 @@ def print_tables(rows, folder, agreed):
     table(*wrong_table(rows))
     print('### Scoring a row: code bytes, with all that is called\n')
     table(*code_table(folder / 'rows'))
+    print('The bytes of it that rows of a design run, one of 4,095 pairs and one of three; all designs share the sums:\n')
+    table(*design_code_table(folder / 'rows'))
     print('### How a row grows: instructions of a whole call\n')
     titled(growth_tables(rows))
     print('A refused row, by its length:\n')
