@@ -7,33 +7,22 @@
 - In the tables of docs/TRACE.md only citations stand in backticks, written as its key says. What they cite exists, every must-fail edit
   is cited, and every public function is cited and has a contract.
 """
-import functools
-import pathlib
 import re
 import subprocess
 import sys
 
-ROOT = pathlib.Path(__file__).resolve().parent.parent
+# nothing is to appear beside the tests
+sys.dont_write_bytecode = True
+
+from pages import README, ROOT, TRACE, finish, report, table_rows, text
+
 CRATES = {path.name for path in (ROOT / 'crates').iterdir()}
 # notes of landings name what is gone, so they are not read
-DOCUMENTS = ['README.md', *sorted(f'docs/{path.name}' for path in (ROOT / 'docs').glob('*.md'))]
-TRACE = 'docs/TRACE.md'
+DOCUMENTS = [README, *sorted(f'docs/{path.name}' for path in (ROOT / 'docs').glob('*.md'))]
 # words that stand for any name; endings of files; crates of the kit, and types of the language
 ANY = re.compile(r'\b(CRATE|EDIT|FILE|FUNCTION)\b')
 ENDINGS = {'antt', 'c', 'edit', 'h', 'md', 'py', 'rs', 'rt', 'toml', 'txt'}
 KIT = {'bytes', 'io', 'libc', 'os', 'std', 'u8', 'u16', 'u32', 'u64', 'usize', 'i16', 'i32', 'i64', 'f32', 'f64'}
-
-wrong = []
-
-
-def report(place, what):
-    wrong.append(f'{place}: {what}')
-
-
-@functools.cache
-def text(path):
-    file = ROOT / path
-    return file.read_text() if file.is_file() else ''
 
 
 def block(opening, source):
@@ -72,7 +61,7 @@ def is_path(word):
 
 def check_examples():
     """The programs that README.md shows are those that the tests compile and run, and the output is what they print."""
-    readme = text('README.md')
+    readme = text(README)
     shown = re.findall(r'```(\w*)\n(.*?)```', readme, re.S)
     # the bench's lines stand indented in README.md
     shown.append(('bench', ''.join(line[4:] + '\n' for line in readme.splitlines() if re.match(r'    (\d+ (ok|no)|total) \d+', line))))
@@ -80,26 +69,10 @@ def check_examples():
               ('python', 'bindings/python/examples/score.py'), ('bench', 'crates/bench/stdout')}
     for kind, file in sorted(tested):
         if (kind, text(file)) not in shown:
-            report('README.md', f'does not show {file} as it is')
+            report(README, f'does not show {file} as it is')
     for kind, block in shown:
         if kind in ('c', 'rust', 'python') and (kind, block) not in {(kind, text(file)) for kind, file in tested}:
-            report('README.md', f'shows in {kind} what no test runs: {block.splitlines()[0]}')
-
-
-def table_rows(document):
-    """The rows of the tables: the place, and the cells by the head of their column."""
-    head = []
-    for number, line in enumerate(text(document).splitlines(), 1):
-        if not line.startswith('|'):
-            head = []
-            continue
-        cells = [cell.strip() for cell in re.split(r'(?<!\\)\|', line)[1:-1]]
-        if not head:
-            head = cells
-        elif not re.fullmatch(r'[|:\- ]+', line):
-            if len(cells) != len(head):
-                report(f'{document}:{number}', f'{len(cells)} cells under {len(head)} heads')
-            yield f'{document}:{number}', dict(zip(head, cells))
+            report(README, f'shows in {kind} what no test runs: {block.splitlines()[0]}')
 
 
 def check_counts():
@@ -198,6 +171,4 @@ check_counts()
 for each in DOCUMENTS:
     check_names(each)
 check_trace()
-for line in dict.fromkeys(wrong):
-    print(line, file=sys.stderr)
-sys.exit(1 if wrong else 0)
+finish()
