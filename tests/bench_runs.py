@@ -3,7 +3,7 @@
 
     python3 tests/bench_runs.py PROGRAM
 
-What it should print comes from the reference program (tools/reference_meaning), which was written from the scope document alone and
+What it should print comes from the reference program (tools/reference_meaning), which was written from the scope alone and
 shares nothing with the library. Prints the number of runs; the first that differs is shown, and the exit status is then 1.
 """
 import pathlib

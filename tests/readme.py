@@ -1,7 +1,7 @@
 #!/usr/bin/env python3
 """What README.md shows is so. One line for each place that is wrong, and status 1; otherwise silence and 0.
 
-- The version of the kit is what `rt version` prints.
+- The version of the kit is what `rt version` prints. Another one is said and not wrong: whether it serves, the proofs tell.
 - The worked row is what the reference program gives.
 - The mean errors are what tools/mean_errors.py prints, and times, counts and bytes are those of docs/PERFORMANCE.md.
 - The layout names every crate, every folder, and every file of bindings/, docs/, tests/ and tools/.
@@ -50,8 +50,10 @@ def check_kit():
         report('rt version', f'cannot be run: {problem.strerror}')
         return
     shown = re.findall(r'`(rattle-kit[^`]*)`', text(README))
-    if shown != [kit]:
-        report(README, f'asks for the kit {" and ".join(shown) or "of no version"}, and rt version prints {kit}')
+    if len(shown) != 1:
+        report(README, f'names {len(shown)} versions of the kit')
+    elif shown != [kit]:
+        print(f'note: README.md names the kit {shown[0]}, and rt version prints {kit}')
 
 
 def check_worked_row():
@@ -99,13 +101,14 @@ def check_measured():
 
 def check_layout():
     layout = text(README).partition('\n## Layout\n')[2].partition('\n## ')[0]
-    named = {name.rstrip('/') for name in re.findall(r'`([^`]+)`', layout)} | {'crates'}
-    for folder in ROOT.iterdir():
-        if folder.is_dir() and folder.name != 'target' and not folder.name.startswith('.'):
-            inside = {path.name for path in folder.iterdir() if path.name != '__pycache__'}
-            entries = {f'{folder.name}/{name}' for name in inside} if folder.name in SPREAD else {folder.name}
-            for entry in sorted((inside if folder.name == 'crates' else entries) - named):
-                report(README, f'the layout does not name {entry}')
+    named = {name.rstrip('/') for name in re.findall(r'`([^`]+)`', layout)}
+    held = subprocess.run(['git', 'ls-files'], cwd=ROOT, check=True, stdout=subprocess.PIPE, text=True).stdout
+    entries = set()
+    for folder, *rest in (path.split('/') for path in held.splitlines()):
+        if rest and not folder.startswith('.'):
+            entries.add(rest[0] if folder == 'crates' else f'{folder}/{rest[0]}' if folder in SPREAD else folder)
+    for entry in sorted(entries - named):
+        report(README, f'the layout does not name {entry}')
 
 
 check_kit()

@@ -1,6 +1,6 @@
-"""The reference program: document 01 once more, in plain integers, and the test vectors that it makes.
+"""The reference program: docs/SCOPE.md once more, in plain integers, and the test vectors that it makes.
 
-It was written from the papers alone: document 01 (the scope), which is the authority, and the source documents 000, 001, 002 and
+It was written from the papers alone: the scope (docs/SCOPE.md), which is the authority, and the source documents 000, 001, 002 and
 003 that it cites.  It shares no code with the library and was written without sight of it, so an agreement between the two says
 something about both.  Beside this file stand
 

@@ -1,4 +1,4 @@
-"""The designs on sizes, the settings that they take, and the widths (document 01, "The four designs" and "Setting").
+"""The designs on sizes, the settings that they take, and the widths (docs/SCOPE.md, "The four designs" and "Setting").
 
 A further design is a function of two nonzero sizes and a setting, and a line of DESIGNS.
 """

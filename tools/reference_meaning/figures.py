@@ -1,4 +1,4 @@
-"""What document 01 says of particular inputs: its tables and examples, number by number."""
+"""What docs/SCOPE.md says of particular inputs: its tables and examples, number by number."""
 
 from .products import SIGNED, UNSIGNED, ProductInput
 from .rows import RowReport

@@ -1,4 +1,4 @@
-"""Products that are judged first (document 01, "Product, unsigned or signed")."""
+"""Products that are judged first (docs/SCOPE.md, "Product, unsigned or signed")."""
 
 import collections
 

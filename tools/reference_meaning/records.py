@@ -1,4 +1,4 @@
-"""The records of the bench program, and the text that it prints (document 01, "The bench program's records").
+"""The records of the bench program, and the text that it prints (docs/SCOPE.md, "The bench program's records").
 
 A further kind of record is a line of KINDS.
 """

@@ -1,4 +1,4 @@
-"""Rows of weights (document 01, "Rows of weights" and "Scoring a row")."""
+"""Rows of weights (docs/SCOPE.md, "Rows of weights" and "Scoring a row")."""
 
 import collections
 

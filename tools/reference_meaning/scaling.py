@@ -1,4 +1,4 @@
-"""Scores that are handed out (document 01, "Handing out a score")."""
+"""Scores that are handed out (docs/SCOPE.md, "Handing out a score")."""
 
 import collections
 

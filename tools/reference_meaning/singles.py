@@ -1,4 +1,4 @@
-"""Products of binary32 patterns (document 01, "Single-precision products"; source 000, equation 3.1)."""
+"""Products of binary32 patterns (docs/SCOPE.md, "Single-precision products"; source 000, equation 3.1)."""
 
 import collections
 

@@ -1,4 +1,4 @@
-"""Rows of a weight store (document 01, "Finding a row in a weight store")."""
+"""Rows of a weight store (docs/SCOPE.md, "Finding a row in a weight store")."""
 
 import collections
 

@@ -1,4 +1,4 @@
-"""Products of two bytes by codes (document 01, "The byte table")."""
+"""Products of two bytes by codes (docs/SCOPE.md, "The byte table")."""
 
 from .designs import split
 

@@ -1,4 +1,4 @@
--- The rule of the table, and what a product by the table gives (document 01, "The byte table"). Definitions only.
+-- The rule of the table, and what a product by the table gives (docs/SCOPE.md, "The byte table"). Definitions only.
 use mathlib.Core.Path.{_≡_}
 use mathlib.Core.Bool.{Bool, true, _&&_}
 use mathlib.Core.List.{List, [], _∷_}

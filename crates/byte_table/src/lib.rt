@@ -1,4 +1,4 @@
-// Products of bytes by a table of logarithm codes (document 01, "The byte table"): two look-ups, a sum and three shifts. Any two bytes
+// Products of bytes by a table of logarithm codes (docs/SCOPE.md, "The byte table"): two look-ups, a sum and three shifts. Any two bytes
 // are accepted, and their product is design 1's.
 ghost use mathlib.Core.Path.{_≡_};
 ghost use Prim.Native.Nat.{_/_, _<_};

@@ -1,4 +1,4 @@
--- The starred twelve of document 01, "Figures to hold the designs to", in one list with one proof, of the meaning itself.
+-- The starred twelve of docs/SCOPE.md, "Figures to hold the designs to", in one list with one proof, of the meaning itself.
 use mathlib.Core.Path.{_≡_, refl}
 use mathlib.Core.List.{List, [], _∷_, map}
 use Prim.Native.Nat.{ℕ}

@@ -1,4 +1,4 @@
--- What a product gives for any input (document 01, "Setting" and "Product, unsigned or signed"). Definitions only.
+-- What a product gives for any input (docs/SCOPE.md, "Setting" and "Product, unsigned or signed"). Definitions only.
 use Prim.Native.Nat.{ℕ, suc, _-_, _^_}
 use mathlib.Core.Bool.{Bool, not, _&&_, _||_, cond}
 use mathlib.Core.List.{List, [], _∷_, _++_}

@@ -1,4 +1,4 @@
--- What scoring a row gives and writes for any input (document 01, "Scoring a row"). Definitions only.
+-- What scoring a row gives and writes for any input (docs/SCOPE.md, "Scoring a row"). Definitions only.
 use Prim.Native.Nat.{ℕ, zero, suc}
 use mathlib.Core.Bool.{not}
 use mathlib.Core.List.{List, [], _∷_, _++_}

@@ -1,4 +1,4 @@
--- Document 01's figure of the format, and patterns at the ends of what is normal, by computation.
+-- docs/SCOPE.md's figure of the format, and patterns at the ends of what is normal, by computation.
 use mathlib.Core.Path.{_≡_, refl}
 use mathlib.Core.Bool.{Bool, true, false}
 use mathlib.Core.List.{List, [], _∷_, map}

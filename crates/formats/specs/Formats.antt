@@ -1,4 +1,4 @@
--- Binary formats and the fields of their patterns (document 01, "Single-precision products"). No width stands in them.
+-- Binary formats and the fields of their patterns (docs/SCOPE.md, "Single-precision products"). No width stands in them.
 -- Definitions only.
 use Prim.Native.Nat.{ℕ, _+_, _-_, _*_, _/_, _%_, _^_}
 use mathlib.Core.Bool.{Bool, false, not, _&&_, cond}

@@ -1,4 +1,4 @@
--- What design 1's kernel adds up. With s of document 01, which is below 2 × 2^(k+m), A × 2^m is 2^(k+m) more than its part of s; and
+-- What design 1's kernel adds up. With s of docs/SCOPE.md, which is below 2 × 2^(k+m), A × 2^m is 2^(k+m) more than its part of s; and
 -- nothing passes 4 × 2^(k+m), which is at most 2^(2w). Assumes nothing.
 use mathlib.Core.Path.{_≡_, sym, ap, _∙_, subst₂}
 use Prim.Native.Nat.{ℕ, max, _+_, _*_, _^_, _≤_, _<_}

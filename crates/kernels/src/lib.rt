@@ -1,5 +1,5 @@
 // The four designs as total functions on magnitudes of up to 32 bits, whatever the width of the operands they come from. They are no
-// operations of document 01: they judge nothing and refuse nothing. They shift and add; none multiplies.
+// operations of docs/SCOPE.md: they judge nothing and refuse nothing. They shift and add; none multiplies.
 ghost use mathlib.Core.Path.{_≡_};
 ghost use Prim.Native.Nat.{min, max, _<_};
 ghost use Rattle.designs.specs.Designs.{product, mitchell, nearest, staged, truncated};

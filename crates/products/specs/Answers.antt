@@ -1,4 +1,4 @@
--- The numbers and values that document 01 gives for each case of the answers. Definitions only.
+-- The numbers and values that docs/SCOPE.md gives for each case of the answers. Definitions only.
 use Prim.Native.Nat.{ℕ}
 use lib.IntN.{ℤ}
 use Rattle.designs.specs.Outcomes.{Outcome, accepted, refused}

@@ -1,4 +1,4 @@
-// Whether an operand is inside a width (document 01, "Product, unsigned or signed"), for any width.
+// Whether an operand is inside a width (docs/SCOPE.md, "Product, unsigned or signed"), for any width.
 ghost use mathlib.Core.Path.{_≡_};
 ghost use Prim.Native.Nat.{_-_};
 ghost use Rattle.designs.specs.Products.{insideUnsigned, insideSigned};

@@ -1,4 +1,4 @@
--- The fields of a record's body (document 01, "The bench program's records"). Definitions only.
+-- The fields of a record's body (docs/SCOPE.md, "The bench program's records"). Definitions only.
 use Prim.Native.Nat.{ℕ, _+_, _-_, _*_, _^_}
 use mathlib.Core.Bool.{cond}
 use mathlib.Core.List.{List}

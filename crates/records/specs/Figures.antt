@@ -1,4 +1,4 @@
--- What the first record of an input is, on either side of each test of document 01, "Reading records", in one list with one proof.
+-- What the first record of an input is, on either side of each test of docs/SCOPE.md, "Reading records", in one list with one proof.
 use mathlib.Core.Path.{_≡_, refl}
 use mathlib.Core.List.{List, [], _∷_, map}
 use Prim.Native.Nat.{ℕ}

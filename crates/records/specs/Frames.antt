@@ -1,4 +1,4 @@
--- Which bytes at the start of an input are its first record, before anything is computed (document 01, "Reading records"). Definitions only.
+-- Which bytes at the start of an input are its first record, with nothing computed (docs/SCOPE.md, "Reading records"). Definitions only.
 use Prim.Native.Nat.{ℕ, zero, suc, _+_}
 use mathlib.Core.List.{List, [], _∷_}
 use lib.Dec.{leb}

@@ -1,4 +1,4 @@
--- The kinds of records (document 01, "The bench program's records"). A kind is its number, the length of its body and what it gives; a
+-- The kinds of records (docs/SCOPE.md, "The bench program's records"). A kind is its number, the length of its body and what it gives; a
 -- further kind is one entry of the list. What an operation gives is cited from its own definition. Definitions only.
 use Prim.Native.Nat.{ℕ}
 use mathlib.Core.Bool.{cond}

@@ -1,4 +1,4 @@
--- The records of an input (document 01, "The bench program's records" and "Reading records"): each is framed, and then evaluated.
+-- The records of an input (docs/SCOPE.md, "The bench program's records" and "Reading records"): each is framed, and then evaluated.
 -- Definitions only.
 use Prim.Native.Nat.{ℕ, zero, suc, _-_}
 use mathlib.Core.Bool.{cond}

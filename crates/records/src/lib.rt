@@ -1,4 +1,4 @@
-// The first record of the bench's input, framed and evaluated (document 01, "Reading records"). Any bytes and any place are accepted.
+// The first record of the bench's input, framed and evaluated (docs/SCOPE.md, "Reading records"). Any bytes and any place are accepted.
 ghost use mathlib.Core.Path.{_≡_};
 ghost use Rattle.records.specs.Frames.{frame};
 ghost use Rattle.records.specs.Records.{recordOf, nextAt};

@@ -1,4 +1,4 @@
-// The refusals of document 01: the number of each, under the name that the C header gives it, and the tests that products and rows
+// The refusals of docs/SCOPE.md: the number of each, under the name that the C header gives it, and the tests that products and rows
 // share, in their order.
 mod products;
 mod rows;

@@ -1,4 +1,4 @@
-// Scoring a row of weights against a frame (document 01, "Scoring a row"). The report gives the score with its exact error, and the
+// Scoring a row of weights against a frame (docs/SCOPE.md, "Scoring a row"). The report gives the score with its exact error, and the
 // residue of each pair goes to a slice that the caller lends.
 ghost use mathlib.Core.Path.{_≡_};
 ghost use Rattle.designs.specs.Rows.{emptyReport};
@@ -7,7 +7,7 @@ ghost use Rattle.rows.specs.Answers.{Scoring, reportOf};
 mod blocks;
 mod sums;
 
-// The report of a row: `magnitude_sum` is the paper's T, and `nonzero_pairs` its n. It is laid out as C has it.
+// The report of a row: `magnitude_sum` is the scope's T, and `nonzero_pairs` its n. It is laid out as C has it.
 #[repr(C)]
 pub struct RowReport {
     pub score: i64,

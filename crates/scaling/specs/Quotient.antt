@@ -1,4 +1,4 @@
--- A whole number divided by 2^k, as a binary64 (document 01, "Handing out a score"). A finite binary64 is `fin s m e`: m × 2^e,
+-- A whole number divided by 2^k, as a binary64 (docs/SCOPE.md, "Handing out a score"). A finite binary64 is `fin s m e`: m × 2^e,
 -- negative where s is true, with an odd m; or a zero, with m = 0 and e = 0, and its sign. Definitions only.
 use mathlib.Core.Path.{_≡_}
 use Prim.Native.Nat.{ℕ, _^_}

@@ -1,4 +1,4 @@
--- What handing out a score gives for any input (document 01, "Handing out a score"). Definitions only.
+-- What handing out a score gives for any input (docs/SCOPE.md, "Handing out a score"). Definitions only.
 use Prim.Native.Nat.{ℕ, _^_}
 use mathlib.Core.Bool.{_||_}
 use mathlib.Core.List.{List, [], _∷_}

@@ -1,4 +1,4 @@
-// A row's score and T as binary64 numbers (document 01, "Handing out a score"). The operation takes any numbers and gives both
+// A row's score and T as binary64 numbers (docs/SCOPE.md, "Handing out a score"). The operation takes any numbers and gives both
 // values or the number of the first refusal that applies.
 ghost use mathlib.Core.Path.{_≡_};
 ghost use Rattle.scaling.specs.Scaling.{scaledGiven, scaledOutcome, BothExact};
@@ -12,7 +12,7 @@ const HIGHEST_SCORE: i64 = 1 << 53;
 
 const LARGEST_SUM: u64 = 1 << 53;
 
-// The score and T, each divided by 2^shift. `magnitude_sum` is the paper's T.
+// The score and T, each divided by 2^shift. `magnitude_sum` is the scope's T.
 pub struct Quotients {
     pub score: f64,
     pub magnitude_sum: f64,

@@ -1,4 +1,4 @@
--- The numbers and values that document 01 gives for each case of the answers, and what is promised of a product. Definitions only.
+-- The numbers and values that docs/SCOPE.md gives for each case of the answers, and what is promised of a product. Definitions only.
 use mathlib.Core.Path.{_≡_}
 use Prim.Native.Nat.{ℕ}
 use lib.Ieee.{ofBits, toBits}

@@ -1,4 +1,4 @@
--- Document 01's singles, its record of kind 2, and the order of the rules where several apply, in one list with one proof, of the
+-- docs/SCOPE.md's singles, its record of kind 2, and the order of the rules where several apply, in one list with one proof, of the
 -- meaning itself.
 use mathlib.Core.Path.{_≡_, refl}
 use mathlib.Core.List.{List, [], _∷_, map}

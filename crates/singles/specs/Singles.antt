@@ -1,4 +1,4 @@
--- What the product of two patterns gives for any input (document 01, "Single product"). Definitions only.
+-- What the product of two patterns gives for any input (docs/SCOPE.md, "Single product"). Definitions only.
 use Prim.Native.Nat.{ℕ, _+_, _-_}
 use mathlib.Core.Bool.{Bool, not, _&&_, _||_, cond}
 use mathlib.Core.List.{List, [], _∷_}

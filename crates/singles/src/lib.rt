@@ -1,4 +1,4 @@
-// The product of two binary32 patterns by Mitchell's approximation (document 01, "Single product"). It takes any patterns and gives
+// The product of two binary32 patterns by Mitchell's approximation (docs/SCOPE.md, "Single product"). It takes any patterns and gives
 // the product or the number of the first refusal that applies.
 ghost use mathlib.Core.Path.{_≡_};
 ghost use Prim.Native.Nat.{_-_, _≤_, _<_};

@@ -1,4 +1,4 @@
--- Which rows are found, on either side of each limit of document 01, "Finding a row in a weight store", in one list with one proof.
+-- Which rows are found, on either side of each limit of docs/SCOPE.md, "Finding a row in a weight store", in one list with one proof.
 use mathlib.Core.Path.{_≡_, refl}
 use mathlib.Core.List.{List, [], _∷_, map}
 use Prim.Native.Nat.{ℕ}

@@ -1,4 +1,4 @@
--- Parts of a weight store, lent as signed 16-bit numbers (document 01, "Finding a row in a weight store"). Definitions only.
+-- Parts of a weight store, lent as signed 16-bit numbers (docs/SCOPE.md, "Finding a row in a weight store"). Definitions only.
 use mathlib.Core.Path.{_≡_}
 use mathlib.Core.List.{List, []}
 use Prim.Native.Nat.{ℕ, _+_, _*_, _<_}

@@ -1,4 +1,4 @@
--- Which rows a weight store has, and where each lies (document 01, "Finding a row in a weight store"): row 0 at its start, and each
+-- Which rows a weight store has, and where each lies (docs/SCOPE.md, "Finding a row in a weight store"): row 0 at its start, and each
 -- next row right after the one before it, all of one length, the columns. Definitions only.
 use Prim.Native.Nat.{ℕ, _*_, _/_, _%_}
 use mathlib.Core.Bool.{not, _||_, cond}

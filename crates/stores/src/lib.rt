@@ -1,4 +1,4 @@
-// Rows of a weight store (document 01, "Finding a row in a weight store"), in which each row is followed by the next and all have the
+// Rows of a weight store (docs/SCOPE.md, "Finding a row in a weight store"), in which each row is followed by the next and all have the
 // same number of columns. A slice has no room for a refusal's number, so there are two operations: one says whether there is such a
 // row, and the other gives it. Both take any store and any numbers.
 ghost use mathlib.Core.Path.{_≡_};

@@ -1,4 +1,4 @@
--- Inputs of the bench and what is printed of each, of the meaning itself: the sample of document 01, "The bench program's records", and each
+-- Inputs of the bench and what is printed of each, of the meaning: the sample of docs/SCOPE.md, "The bench program's records", and each
 -- refusal and limit of "Reading records"; in two lists, each with one proof.
 use mathlib.Core.Path.{_≡_, refl}
 use mathlib.Core.List.{List, [], _∷_, map}

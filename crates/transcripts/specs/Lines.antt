@@ -1,4 +1,4 @@
--- The lines that records print, and what they count for (document 01, "The bench program's records"). Text is a list of bytes.
+-- The lines that records print, and what they count for (docs/SCOPE.md, "The bench program's records"). Text is a list of bytes.
 -- Definitions only.
 use Prim.Native.Nat.{ℕ, _+_}
 use mathlib.Core.List.{List, [], _∷_, _++_}

@@ -1,4 +1,4 @@
--- The transcript of an input (document 01, "Reading records"), and what a buffer holds once it is written. Definitions only.
+-- The transcript of an input (docs/SCOPE.md, "Reading records"), and what a buffer holds once it is written. Definitions only.
 use mathlib.Core.Path.{_≡_}
 use Prim.Native.Nat.{ℕ, zero, suc, _≤_}
 use mathlib.Core.List.{List, [], _∷_}

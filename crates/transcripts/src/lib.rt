@@ -1,4 +1,4 @@
-// The transcript of an input of the bench program (document 01, "The bench program's records" and "Reading records"): a line for each
+// The transcript of an input of the bench program (docs/SCOPE.md, "The bench program's records" and "Reading records"): a line for each
 // record, and the total. Any bytes are accepted.
 ghost use Rattle.records.specs.Records.{recordsOf};
 ghost use Rattle.transcripts.specs.Text.{Room, Put};

@@ -1,4 +1,4 @@
-// The figures of document 01, "Figures to hold the designs to", that have no star, and what the sentences under the table say, as
+// The figures of docs/SCOPE.md, "Figures to hold the designs to", that have no star, and what the sentences under the table say, as
 // lines like those of the vectors. Two kinds are of the figures alone:
 // q DESIGN WIDTH SETTING A REFUSAL PRODUCT RESIDUE: the product of A and A, and the residue that it leaves of the true product.
 // n PAIRS REFUSAL SCORE TRUE ERROR T N RESIDUES: so many pairs (1, 1) by design 1, and of the residues only how many they are.

@@ -1,4 +1,4 @@
-// Runs the figures of document 01, all pairs of the byte table and the vectors of standard input through the library, and prints
+// Runs the figures of docs/SCOPE.md, all pairs of the byte table and the vectors of standard input through the library, and prints
 // how many it compared and how many were wrong.
 mod field;
 mod fields;

@@ -1,4 +1,4 @@
-//! The figures of document 01, number by number, against the archive and against the meaning that the other parts compare with.
+//! The figures of docs/SCOPE.md, number by number, against the archive and against the meaning that the other parts compare with.
 
 use highvane::{Design, Report, row_of, scale, score_row, single_product_of_bits, transcript};
 

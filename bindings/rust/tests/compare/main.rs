@@ -1,4 +1,4 @@
-//! Compares the archive with a second implementation of document 01, on every byte pair and on millions of seeded inputs. Each
+//! Compares the archive with a second implementation of docs/SCOPE.md, on every byte pair and on millions of seeded inputs. Each
 //! part prints how many comparisons it made, and shows differences with their input and both answers. The last line has the
 //! totals. The exit status is 1 if anything differed or a refusal was never met. HIGHVANE_SEED, a number, gives other inputs.
 
@@ -28,7 +28,7 @@ use tally::Tally;
 type Part = (&'static str, usize, fn(&mut Random, &mut Tally));
 
 const PARTS: [Part; 20] = [
-    ("figures of document 01", 1, figures::all),
+    ("figures of docs/SCOPE.md", 1, figures::all),
     ("products: all byte pairs, every design and setting, every width", 1, products::byte_pairs),
     ("products: every design, width and setting near the known ones", 1, products::numbers),
     ("products: seeded", 10, products::seeded),

@@ -17,14 +17,14 @@ pub struct Tally {
 }
 
 impl Tally {
-    /// Compares what was given for an input with what document 01 gives.
+    /// Compares what was given for an input with what docs/SCOPE.md gives.
     pub fn same<T: PartialEq + Debug>(&mut self, given: T, meant: T, input: impl FnOnce() -> String) {
         self.compared += 1;
         if given != meant {
             self.wrong += 1;
             if self.shown.len() < SHOWN {
                 let input = input();
-                self.shown.push(format!("{input}: gives {given:?}, document 01 gives {meant:?}"));
+                self.shown.push(format!("{input}: gives {given:?}, docs/SCOPE.md gives {meant:?}"));
             }
         }
     }

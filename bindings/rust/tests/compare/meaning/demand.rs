@@ -1,5 +1,5 @@
-//! The third demand: what holds of the report of every row that is scored. Document 01 only names it; the bounds are those of
-//! docs/TRACE.md. Nine times the error's size is at most T in designs 1 and 2; 4^s times it is at most T in design 3; 9 × 2^t
+//! The third demand: what holds of the report of every row that is scored. Its bounds are those that
+//! docs/SCOPE.md has. Nine times the error's size is at most T in designs 1 and 2; 4^s times it is at most T in design 3; 9 × 2^t
 //! times it is at most (2^t + 18) × T + 9 × 2^t × n in design 4.
 
 use super::designs::{parts, power};

@@ -1,4 +1,4 @@
-//! Document 01 once more, written from the document alone and in its order: plain arithmetic in 128 bits, sentence by sentence. A
+//! docs/SCOPE.md once more, written from the scope alone and in its order: plain arithmetic in 128 bits, sentence by sentence. A
 //! refusal is its number, and the tests of an operation stand in the order that the document gives.
 
 pub mod demand;
