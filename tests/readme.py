@@ -102,7 +102,7 @@ def check_measured():
 def check_layout():
     layout = text(README).partition('\n## Layout\n')[2].partition('\n## ')[0]
     named = {name.rstrip('/') for name in re.findall(r'`([^`]+)`', layout)}
-    held = subprocess.run(['git', 'ls-files'], cwd=ROOT, check=True, stdout=subprocess.PIPE, text=True).stdout
+    held = subprocess.run(['git', '-c', 'safe.directory=*', 'ls-files'], cwd=ROOT, check=True, stdout=subprocess.PIPE, text=True).stdout
     entries = set()
     for folder, *rest in (path.split('/') for path in held.splitlines()):
         if rest and not folder.startswith('.'):
