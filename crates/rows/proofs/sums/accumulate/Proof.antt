@@ -1,5 +1,5 @@
--- Between two blocks the report is that of the pairs before, whose residues stand in their places; `fill` and `add` take it a block further.
--- Assumes nothing.
+-- Between two blocks the sums are those of the pairs before, whose residues stand in their places; `fill` and `add` take them a block
+-- further. Assumes nothing.
 use borrow.Author.Needs.{needs}
 use mathlib.Core.Path.{_≡_, refl, _∙_}
 use Prim.Native.Nat.{ℕ, _+_, _-_, _≤_}
@@ -96,20 +96,20 @@ loop-again c =
 
 -- the whole row, when the loop has ended
 module _ (c : tie.After-loop Inv-loop μ-loop) where
-  abbrev args : tie.Start Inv-loop μ-loop
-  args = c .before .before
+  abbrev entry : tie.Start Inv-loop μ-loop
+  entry = c .before .before
 
-  all : Reached (ofPair (residue (designOf (args .args .design) (args .args .setting))) (args .args .weights .now) (args .args .frame .now)) (args .args .weights .now) (args .args .frame .now)
-      (args .args .residues .now) (c .before .loop .residues) (length (args .args .weights .now)) (c .before .loop .sums)
-  all = let end : length (args .args .weights .now) ≡ c .before .loop .at = omega (arith, c .before .loop .inv .0, c .loop-test .left) in rw end (c .before .loop .inv .2)
+  all : Reached (ofPair (residue (designOf (entry .args .design) (entry .args .setting))) (entry .args .weights .now) (entry .args .frame .now)) (entry .args .weights .now) (entry .args .frame .now)
+      (entry .args .residues .now) (c .before .loop .residues) (length (entry .args .weights .now)) (c .before .loop .sums)
+  all = let end : length (entry .args .weights .now) ≡ c .before .loop .at = omega (arith, c .before .loop .inv .0, c .loop-test .left) in rw end (c .before .loop .inv .2)
 
 report-of-requires : tie.Need-report-of-requires Inv-loop μ-loop
-report-of-requires c κs = roomy (all c) (args c .pre .pairs)
+report-of-requires c κs = roomy (all c) (entry c .pre .pairs)
 
 returns : tie.Need-returns Inv-loop μ-loop
 returns c =
     let b = c .before in
-    let start = args b in
+    let start = entry b in
     record {
       is = c .report-of .ensures ∙ whole-report _ _ _ _ _ _ (start .pre .lengths) (start .pre .places) (all b);
       written = whole-residues _ _ _ _ _ _ (start .pre .lengths) (start .pre .places) (all b);
