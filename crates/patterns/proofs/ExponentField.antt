@@ -20,7 +20,7 @@ use Rattle.designs.proofs.SignedLeft.{lead, rest-is}
 use Rattle.designs.proofs.SignedOffsets.{near, nearest-left}
 use Rattle.designs.proofs.Sizes.{size-add, size-neg, size-sign}
 use Rattle.patterns.specs.Patterns.{fieldPower, lessPower, logPattern, patternOf, Stands}
-use Rattle.patterns.proofs.Integers.{sized}
+use Rattle.pairs.proofs.Integers.{sized}
 use Rattle.patterns.proofs.Values.{nothing, stands}
 
 field : (s : Bool) (c h : ℕ) → c + h < 2 ^ 30 → bitAnd (logPattern s c + h) (2 ^ 32 - 2 ^ 23) ≡ logPattern s ((c + h) / 2 ^ 23 * 2 ^ 23)

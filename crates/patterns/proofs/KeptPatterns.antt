@@ -22,7 +22,7 @@ use Rattle.designs.proofs.KeptCodes.{kept-scaled, keptCode}
 use Rattle.designs.proofs.Parts.{up-to}
 use Rattle.designs.proofs.Truncated.{kept-lt, shift-down}
 use Rattle.patterns.specs.Patterns.{Less, logPattern, patternOf}
-use Rattle.patterns.proofs.Integers.{size16}
+use Rattle.pairs.proofs.Integers.{size16}
 use Rattle.patterns.proofs.Pair.{less, log-sum, pattern-at}
 
 -- the fraction of a code, cut at the last kept bit

@@ -1,4 +1,3 @@
-pub mod Integers
 pub mod Values
 pub mod Pair
 pub mod Mitchell

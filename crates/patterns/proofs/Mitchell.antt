@@ -10,7 +10,7 @@ use Rattle.designs.specs.Designs.{formula, mitchell}
 use Rattle.designs.specs.Signs.{negative, signedProduct}
 use Rattle.designs.proofs.Codes.{code-lt, scaled}
 use Rattle.patterns.specs.Patterns.{Less, patternOf}
-use Rattle.patterns.proofs.Integers.{size16}
+use Rattle.pairs.proofs.Integers.{size16}
 use Rattle.patterns.proofs.Pair.{less, log-sum, pattern-at}
 
 pub mitchell-less : {w x : ℤ} (r : ℕ) → SFits w16 w → SFits w16 x → r < 2 ^ 32

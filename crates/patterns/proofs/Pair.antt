@@ -12,37 +12,19 @@ use mir.Syntax.{w16, w32}
 use mir.Val.{SFits, toZ, ofZ}
 use Rattle.designs.specs.Codes.{code, scaledProduct}
 use Rattle.designs.specs.Designs.{Design, KeepsBit, formula, product, unlessZero}
-use Rattle.designs.specs.Rows.{nonzero}
 use Rattle.designs.specs.Signs.{negative, residue, signedProduct, withSign}
 use Rattle.designs.proofs.Distance.{within-dist}
 use Rattle.designs.proofs.Sizes.{sign-dist, size-true, true-is}
 use Rattle.designs.proofs.Widths.{size-lt}
 use Rattle.designs.proofs.Zeros.{product-is, zero-product}
-use Rattle.patterns.specs.Patterns.{Less, logPattern, maskedBy, patternOf, Stands}
-use Rattle.patterns.proofs.Integers.{read-back, size16, sized}
+use Rattle.patterns.specs.Patterns.{Less, logPattern, patternOf, Stands}
+use Rattle.pairs.proofs.Counting.{both}
+use Rattle.pairs.proofs.Integers.{read-back, size16, sized}
 use Rattle.patterns.proofs.Values.{nothing, stands}
 
 no-sign : (s : Bool) → withSign s 0 ≡ pos 0
 no-sign true = refl
 no-sign false = refl
-
--- one number is 0, or none
-none : (A B : ℕ) → A * B ≡ 0 → 0 ≡ unlessZero A B 1
-none zero B e = refl
-none (suc A) zero e = refl
-none (suc A) (suc B) e = absurd (omega arith)
-
-both : (A B n : ℕ) → A * B ≡ suc n → (0 < A) × (0 < B) × (1 ≡ unlessZero A B 1)
-both zero B n e = absurd (omega arith)
-both (suc A) zero n e = absurd (omega arith)
-both (suc A) (suc B) n e = (omega arith, omega arith, refl)
-
-pub counted : (w x : ℤ) → maskedBy (w *ℤ x) 1 ≡ nonzero w x
-counted w x = go (natAbs (w *ℤ x)) (size-true w x)
-  where
-    go : (n : ℕ) → n ≡ natAbs w * natAbs x → unlessZero n 1 1 ≡ nonzero w x
-    go zero e = none _ _ (sym e)
-    go (suc n) e = both _ _ n (sym e) .2
 
 -- c is the logarithm of a design's product of two sizes
 pub record Log (D : Design) (w x : ℤ) (p : ℕ) : Type 0 where

@@ -1,9 +1,7 @@
 // One path for a pair of 16-bit numbers: the residue of each design, for every pair, with no branch in the compiled code that depends
 // on the numbers. A binary32 pattern is a logarithm code above a sign, so the machine's casts take logarithms and powers.
 ghost use mathlib.Core.Path.{_≡_};
-ghost use lib.IntN.{natAbs, _*ℤ_};
 ghost use Rattle.designs.specs.Designs.{mitchell, nearest, staged, truncated};
-ghost use Rattle.designs.specs.Rows.{nonzero};
 ghost use Rattle.designs.specs.Signs.{residue};
 ghost use Rattle.patterns.specs.Patterns.{clamped};
 
@@ -16,7 +14,6 @@ mod truncation;
 use crate::logs::log_sum;
 use crate::logs::pattern;
 use crate::logs::residue_by;
-use crate::logs::unless_zero;
 use crate::powers::offset;
 use crate::sizes::less_size;
 use crate::sizes::size;
@@ -25,36 +22,11 @@ use crate::truncation::kept_pattern;
 use crate::truncation::with_carry;
 pub use stages::stages_left;
 
-// The true product.
-pub fn true_product(w: i16, x: i16) -> i32
-    ensures { λ r. ⌜ r ≡ w *ℤ x ⌝ }
-{
-    (w as i32) * (x as i32)
-}
-
-// The size of the true product.
-pub fn true_size(w: i16, x: i16) -> u32
-    ensures { λ r. ⌜ r ≡ natAbs (w *ℤ x) ⌝ }
-{
-    let z = true_product(w, x);
-    if z < 0 {
-        return (0 - z) as u32;
-    }
-    z as u32
-}
-
-// 1 for a pair without a zero, otherwise 0.
-pub fn counts(w: i16, x: i16) -> u32
-    ensures { λ r. ⌜ r ≡ nonzero w x ⌝ }
-{
-    unless_zero(true_product(w, x), 1)
-}
-
 // The residue of design 1.
 pub fn mitchell_residue(w: i16, x: i16) -> i32
     ensures { λ r. ⌜ r ≡ residue mitchell w x ⌝ }
 {
-    residue_by(true_product(w, x), log_sum(pattern(w), pattern(x)))
+    residue_by(pairs::true_product(w, x), log_sum(pattern(w), pattern(x)))
 }
 
 // The residue of design 2: what the nearest powers of two leave of both numbers, multiplied.
@@ -70,7 +42,7 @@ pub fn staged_residue(stages: u32, w: i16, x: i16) -> i32
     ensures { λ r. ⌜ r ≡ residue (staged stages) w x ⌝ }
 {
     less_size(
-        true_product(w, x),
+        pairs::true_product(w, x),
         kernels::staged(stages, size(w), size(x)) as u32,
     )
 }
@@ -82,7 +54,7 @@ pub fn truncated_residue(kept_bits: u32, w: i16, x: i16) -> i32
 {
     let t = clamp(kept_bits);
     residue_by(
-        true_product(w, x),
+        pairs::true_product(w, x),
         with_carry(t, log_sum(kept_pattern(t, w), kept_pattern(t, x))),
     )
 }

@@ -37,7 +37,7 @@ pub(crate) fn log_sum(p: u32, q: u32) -> u32
 }
 
 // p, or 0 where z is 0.
-pub(crate) fn unless_zero(z: i32, p: u32) -> u32
+fn unless_zero(z: i32, p: u32) -> u32
     ensures { λ r. ⌜ r ≡ maskedBy z p ⌝ }
 {
     if z == 0 {

@@ -13,7 +13,7 @@ use Rattle.designs.specs.Designs.{Design}
 use Rattle.designs.specs.Signs.{residue}
 use Rattle.patterns.specs.Blocks.{Done}
 use Rattle.patterns.proofs.Blocks.{next-done}
-use Rattle.patterns.proofs.Integers.{read-back}
+use Rattle.pairs.proofs.Integers.{read-back}
 use Rattle.rows.specs.Blocks.{ofPair}
 
 -- the first j places are filled

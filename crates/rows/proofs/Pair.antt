@@ -12,7 +12,7 @@ use Rattle.designs.specs.Signs.{negative, signedProduct, residue}
 use Rattle.designs.proofs.Distance.{dist, within-dist}
 use Rattle.designs.proofs.Sizes.{sign-dist, size-sign, size-true, true-is}
 use Rattle.designs.proofs.Widths.{size-lt}
-use Rattle.patterns.proofs.Integers.{size16, true-size}
+use Rattle.pairs.proofs.Integers.{size16, true-size}
 
 -- the largest size of a product or a residue
 abbrev pub most : ℕ

@@ -13,7 +13,7 @@ use Rattle.designs.proofs.Cases.{either-lt}
 use Rattle.designs.proofs.Sizes.{size-add}
 use Rattle.rows.specs.Answers.{Fits16}
 use Rattle.patterns.proofs.Blocks.{next-done, none-done}
-use Rattle.patterns.proofs.Integers.{true-size}
+use Rattle.pairs.proofs.Integers.{true-size}
 use Rattle.rows.specs.Blocks.{ofPair, total, count, Reached, Roomy, withPair}
 use Rattle.rows.specs.declared.sums.Sums.{Sums}
 

@@ -88,10 +88,10 @@ fn with_pair(sums: Sums, w: i16, x: i16, residue: i64) -> Sums
     ensures { λ r. ⌜ r ≡ withPair sums w x residue ⌝ }
 {
     Sums {
-        true_sum: sums.true_sum + patterns::true_product(w, x) as i64,
+        true_sum: sums.true_sum + pairs::true_product(w, x) as i64,
         error: sums.error + residue,
-        magnitude_sum: sums.magnitude_sum + patterns::true_size(w, x) as u64,
-        nonzero_pairs: sums.nonzero_pairs + patterns::counts(w, x),
+        magnitude_sum: sums.magnitude_sum + pairs::true_size(w, x) as u64,
+        nonzero_pairs: sums.nonzero_pairs + pairs::counts(w, x),
     }
 }
 

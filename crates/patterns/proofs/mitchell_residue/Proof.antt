@@ -9,7 +9,7 @@ use mir.Facts.{toZ-ofZ}
 use Rattle.designs.specs.Designs.{mitchell}
 use Rattle.designs.specs.Signs.{signedProduct}
 use Rattle.patterns.specs.Patterns.{Less, patternOf}
-use Rattle.patterns.proofs.Integers.{read-true}
+use Rattle.pairs.proofs.Integers.{read-true}
 use Rattle.patterns.proofs.Pair.{residue-is}
 use Rattle.patterns.proofs.Mitchell.{mitchell-less}
 use Rattle.patterns.proofs.mitchell_residue.Statement.{statement}

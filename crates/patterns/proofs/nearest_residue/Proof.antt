@@ -11,7 +11,7 @@ use Rattle.designs.specs.Signs.{residue}
 use Rattle.patterns.specs.Patterns.{lessPower}
 use Rattle.patterns.proofs.ExponentField.{nearest-is}
 use Rattle.signs.proofs.Integers.{fits-as, read-as}
-use Rattle.patterns.proofs.Integers.{read-back, size16}
+use Rattle.pairs.proofs.Integers.{read-back, size16}
 use Rattle.patterns.proofs.Pair.{residue-fits}
 use Rattle.patterns.proofs.nearest_residue.Statement.{statement}
 use Rattle.patterns.proofs.nearest_residue.Tie as tie

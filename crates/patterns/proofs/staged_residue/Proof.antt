@@ -14,7 +14,7 @@ use Rattle.designs.specs.Designs.{product, staged}
 use Rattle.designs.specs.Signs.{negative, residue, signedProduct, withSign}
 use Rattle.designs.proofs.Sizes.{size-true, true-is}
 use Rattle.designs.proofs.Staged.{staged-is, stages-leave}
-use Rattle.patterns.proofs.Integers.{read-back, read-true, true-size}
+use Rattle.pairs.proofs.Integers.{read-back, read-true, true-size}
 use Rattle.patterns.proofs.staged_residue.Statement.{statement}
 use Rattle.patterns.proofs.staged_residue.Tie as tie
 

@@ -11,7 +11,7 @@ use mir.Facts.{toZ-ofZ}
 use Rattle.designs.specs.Designs.{truncated}
 use Rattle.designs.specs.Signs.{residue, signedProduct}
 use Rattle.patterns.specs.Patterns.{Less, patternOf}
-use Rattle.patterns.proofs.Integers.{read-true}
+use Rattle.pairs.proofs.Integers.{read-true}
 use Rattle.patterns.proofs.Pair.{residue-is}
 use Rattle.patterns.proofs.KeptPatterns.{truncated-less}
 use Rattle.patterns.proofs.truncated_residue.Statement.{statement}

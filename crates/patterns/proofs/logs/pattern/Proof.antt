@@ -1,7 +1,7 @@
 -- A 16-bit number, widened, has a size of at most 2^15. Assumes nothing.
 use mathlib.Core.Path.{ap, _∙_}
 use Rattle.patterns.specs.Patterns.{patternOf}
-use Rattle.patterns.proofs.Integers.{size16, widened, widens}
+use Rattle.pairs.proofs.Integers.{size16, widened, widens}
 use Rattle.patterns.proofs.logs.pattern.Statement.{statement}
 use Rattle.patterns.proofs.logs.pattern.Tie as tie
 

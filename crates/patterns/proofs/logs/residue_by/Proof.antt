@@ -7,7 +7,7 @@ use mir.Val.{toZ, ofZ}
 use mir.Facts.{toZ-ofZ}
 use Rattle.patterns.specs.Patterns.{Less, maskedBy, Stands}
 use Rattle.signs.proofs.Integers.{fits-as, read-as}
-use Rattle.patterns.proofs.Integers.{read-back, sized}
+use Rattle.pairs.proofs.Integers.{read-back, sized}
 use Rattle.patterns.proofs.logs.residue_by.Statement.{statement}
 use Rattle.patterns.proofs.logs.residue_by.Tie as tie
 

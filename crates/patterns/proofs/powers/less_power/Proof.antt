@@ -11,7 +11,7 @@ use Rattle.designs.specs.Signs.{negative, withSign}
 use Rattle.patterns.specs.Patterns.{fieldPower, lessPower, patternOf, Stands}
 use Rattle.patterns.proofs.ExponentField.{less-fits, pattern-room, power-of}
 use Rattle.signs.proofs.Integers.{fits-as, read-as}
-use Rattle.patterns.proofs.Integers.{read-back}
+use Rattle.pairs.proofs.Integers.{read-back}
 use Rattle.patterns.proofs.powers.less_power.Statement.{statement}
 use Rattle.patterns.proofs.powers.less_power.Tie as tie
 

@@ -3,7 +3,7 @@ use mathlib.Core.Path.{ap, _∙_}
 use Prim.Native.Nat.{_^_}
 use native.Mathlib.Omega.{arith}
 use Rattle.patterns.specs.Patterns.{lessPower}
-use Rattle.patterns.proofs.Integers.{read-back, size16, widened, widens}
+use Rattle.pairs.proofs.Integers.{read-back, size16, widened, widens}
 use Rattle.patterns.proofs.powers.offset.Statement.{statement}
 use Rattle.patterns.proofs.powers.offset.Tie as tie
 

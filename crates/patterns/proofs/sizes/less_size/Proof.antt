@@ -11,7 +11,7 @@ use Rattle.designs.proofs.Distance.{within-dist}
 use Rattle.designs.proofs.SignedGaps.{own-sign}
 use Rattle.designs.proofs.Sizes.{sign-dist}
 use Rattle.signs.proofs.Integers.{fits-as, read-as, tested}
-use Rattle.patterns.proofs.Integers.{sized}
+use Rattle.pairs.proofs.Integers.{sized}
 use Rattle.patterns.proofs.sizes.less_size.Statement.{statement}
 use Rattle.patterns.proofs.sizes.less_size.Tie as tie
 

@@ -5,7 +5,7 @@ use native.Mathlib.Omega.{arith}
 use lib.IntN.{natAbs}
 use mir.Syntax.{w64}
 use mir.Facts.{toZ-ofZ, sfits-widen}
-use Rattle.patterns.proofs.Integers.{size16}
+use Rattle.pairs.proofs.Integers.{size16}
 use Rattle.patterns.proofs.sizes.size.Statement.{statement}
 use Rattle.patterns.proofs.sizes.size.Tie as tie
 

@@ -12,7 +12,7 @@ use mir.Syntax.{w16}
 use mir.Val.{SFits}
 use Rattle.patterns.specs.Blocks.{Done, place}
 use Rattle.patterns.proofs.Blocks.{done-small, next-done, none-done}
-use Rattle.patterns.proofs.Integers.{size16, widened, widens}
+use Rattle.pairs.proofs.Integers.{size16, widened, widens}
 use Rattle.patterns.proofs.stages.copy.Statement.{statement}
 use Rattle.patterns.proofs.stages.copy.Tie as tie
 

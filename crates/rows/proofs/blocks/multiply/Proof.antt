@@ -10,7 +10,7 @@ use mir.Syntax.{w32}
 use mir.Val.{SFits, toZ, ofZ}
 use mir.Facts.{toZ-ofZ}
 use Rattle.designs.proofs.Sizes.{size-true}
-use Rattle.patterns.proofs.Integers.{sized}
+use Rattle.pairs.proofs.Integers.{sized}
 use Rattle.patterns.specs.Blocks.{Done}
 use Rattle.patterns.proofs.Blocks.{next-done, none-done}
 use Rattle.rows.proofs.blocks.multiply.Statement.{statement}

@@ -9,7 +9,7 @@ use mir.Val.{SFits, toZ, ofZ}
 use mir.Facts.{toZ-ofZ, sfits-widen}
 use Rattle.designs.specs.Rows.{nonzero}
 use Rattle.designs.proofs.Sizes.{size-add}
-use Rattle.patterns.proofs.Integers.{true-size}
+use Rattle.pairs.proofs.Integers.{true-size}
 use Rattle.signs.proofs.Integers.{fits-as, read-as, sized}
 use Rattle.rows.specs.declared.sums.Sums.{Sums}
 use Rattle.rows.proofs.Turn.{counts-once}

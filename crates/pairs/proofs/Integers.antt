@@ -1,7 +1,7 @@
 -- Signed machine numbers: 16-bit ones widened to 32 bits, their sizes and tests, and what fits an i32. Each law goes by the two
 -- constructors of ℤ. Assumes nothing.
 use mathlib.Core.Path.{_≡_, refl, sym, ap₂, _∙_}
-use Prim.Native.Nat.{ℕ, zero, suc, _^_, _≤_, _<_}
+use Prim.Native.Nat.{_^_, _≤_, _<_}
 use native.Mathlib.Nat.{mul-le-mul}
 use native.Mathlib.Omega.{arith}
 use mathlib.Core.Bool.{true, false, false≢true}
@@ -13,7 +13,6 @@ use mir.Val.{Fits, SFits, toZ, ofZ}
 use mir.Facts.{toZ-ofZ, sfits-widen}
 use Rattle.designs.specs.Signs.{negative}
 use Rattle.designs.proofs.Sizes.{size-true}
-use Rattle.patterns.specs.Patterns.{maskedBy}
 
 pub size16 : {x : ℤ} → SFits w16 x → natAbs x ≤ 2 ^ 15
 size16 {x} h = natAbs-le x (h .sfits)
@@ -42,17 +41,6 @@ true-fits {w} {x} hw hx = sized (w *ℤ x) (omega (arith, true-size hw hx))
 -- and read back from a callee's result
 pub read-true : {r w x : ℤ} → mag r < 2 ^ 31 → r ≡ toZ w16 (ofZ w16 w) *ℤ toZ w16 (ofZ w16 x) → SFits w16 w → SFits w16 x → toZ w32 (ofZ w32 r) ≡ w *ℤ x
 read-true h e hw hx = read-back h (e ∙ ap₂ _*ℤ_ (toZ-ofZ hw) (toZ-ofZ hx))
-
--- the bits of a number are 0 where it is
-pub masked-none : (z : ℤ) (p : ℕ) → SFits w32 z → ofZ w32 z ≡ 0 → 0 ≡ maskedBy z p
-masked-none (pos zero) p h e = refl
-masked-none (pos (suc n)) p h e = absurd (omega arith)
-masked-none (negsuc n) p h e = absurd (omega (arith, h .sfits))
-
-pub masked-some : (z : ℤ) (p : ℕ) → (ofZ w32 z ≡ 0 → ⊥) → p ≡ maskedBy z p
-masked-some (pos zero) p e = absurd (e refl)
-masked-some (pos (suc n)) p e = refl
-masked-some (negsuc n) p e = refl
 
 -- the size of a number without its sign is a machine number
 pub plain : (x : ℤ) → negative x ≡ false → natAbs x < 2 ^ 31 → T (nonNeg x) × Fits w32 (natAbs x)

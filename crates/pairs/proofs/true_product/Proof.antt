@@ -2,9 +2,9 @@
 use mathlib.Core.Path.{ap₂}
 use lib.IntN.{_*ℤ_}
 use Rattle.signs.proofs.Integers.{fits-as, read-as}
-use Rattle.patterns.proofs.Integers.{true-fits, widened, widens}
-use Rattle.patterns.proofs.true_product.Statement.{statement}
-use Rattle.patterns.proofs.true_product.Tie as tie
+use Rattle.pairs.proofs.Integers.{true-fits, widened, widens}
+use Rattle.pairs.proofs.true_product.Statement.{statement}
+use Rattle.pairs.proofs.true_product.Tie as tie
 
 mul-result : tie.Need-mul-result
 mul-result c = fits-as (ap₂ _*ℤ_ (widened (c .fits .w)) (widened (c .fits .x))) (true-fits (c .fits .w) (c .fits .x))

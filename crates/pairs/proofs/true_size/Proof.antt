@@ -9,9 +9,9 @@ use mir.Val.{SFits, toZ, ofZ}
 use mir.Facts.{toZ-ofZ}
 use Rattle.designs.proofs.Sizes.{size-neg}
 use Rattle.signs.proofs.Integers.{tested}
-use Rattle.patterns.proofs.Integers.{plain, sized, true-size, turned}
-use Rattle.patterns.proofs.true_size.Statement.{statement}
-use Rattle.patterns.proofs.true_size.Tie as tie
+use Rattle.pairs.proofs.Integers.{plain, sized, true-size, turned}
+use Rattle.pairs.proofs.true_size.Statement.{statement}
+use Rattle.pairs.proofs.true_size.Tie as tie
 
 module _ (c : tie.After-true-product) where
   abbrev z : ℤ

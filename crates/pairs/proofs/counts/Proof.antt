@@ -1,0 +1,22 @@
+-- The test of the true product's bits is the test of its size. Assumes nothing.
+use borrow.Author.Needs.{needs}
+use mathlib.Core.Path.{_≡_, ap₂, _∙_}
+use lib.IntN.{_*ℤ_}
+use mir.Facts.{toZ-ofZ}
+use Rattle.pairs.proofs.Counting.{counts-none, counts-one}
+use Rattle.pairs.proofs.counts.Statement.{statement}
+use Rattle.pairs.proofs.counts.Tie as tie
+
+truth : (c : tie.After-true-product) → c .true-product .result ≡ c .before .args .w *ℤ c .before .args .x
+truth c = c .true-product .ensures ∙ ap₂ _*ℤ_ (toZ-ofZ (c .before .fits .w)) (toZ-ofZ (c .before .fits .x))
+
+returns : tie.Need-returns
+returns c =
+    let b = c .before in
+    counts-none (b .before .args .w) (b .before .args .x) _ (truth b) (record { sfits = b .true-product .ok }) (c .if1 .taken)
+
+returns-2 : tie.Need-returns-2
+returns-2 c = let b = c .before in counts-one (b .before .args .w) (b .before .args .x) _ (truth b) (c .if1 .left)
+
+pub counts-spec : {M : Type 1} → statement M
+counts-spec = tie.close (tie.spec (λ c κs. search needs) returns returns-2)

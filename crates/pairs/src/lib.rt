@@ -1,0 +1,33 @@
+// A pair of 16-bit numbers, a weight and a number of a frame: its true product, the size of that, and whether the pair counts. No branch of
+// the compiled code depends on the numbers.
+ghost use mathlib.Core.Path.{_≡_};
+ghost use lib.IntN.{natAbs, _*ℤ_};
+ghost use Rattle.designs.specs.Rows.{nonzero};
+
+// The true product.
+pub fn true_product(w: i16, x: i16) -> i32
+    ensures { λ r. ⌜ r ≡ w *ℤ x ⌝ }
+{
+    (w as i32) * (x as i32)
+}
+
+// The size of the true product.
+pub fn true_size(w: i16, x: i16) -> u32
+    ensures { λ r. ⌜ r ≡ natAbs (w *ℤ x) ⌝ }
+{
+    let z = true_product(w, x);
+    if z < 0 {
+        return (0 - z) as u32;
+    }
+    z as u32
+}
+
+// 1 for a pair without a zero, otherwise 0.
+pub fn counts(w: i16, x: i16) -> u32
+    ensures { λ r. ⌜ r ≡ nonzero w x ⌝ }
+{
+    if true_product(w, x) == 0 {
+        return 0;
+    }
+    1
+}
