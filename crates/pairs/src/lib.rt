@@ -1,6 +1,7 @@
 // A pair of 16-bit numbers, a weight and a number of a frame: its true product, the size of that, and whether the pair counts. No branch of
-// the compiled code depends on the numbers.
+// the compiled code depends on the numbers. And how many pairs there are, where two lengths bound them.
 ghost use mathlib.Core.Path.{_≡_};
+ghost use Prim.Native.Nat.{min};
 ghost use lib.IntN.{natAbs, _*ℤ_};
 ghost use Rattle.designs.specs.Rows.{nonzero};
 
@@ -30,4 +31,14 @@ pub fn counts(w: i16, x: i16) -> u32
         return 0;
     }
     1
+}
+
+// The smaller of two lengths: two slices have as many pairs as the shorter has numbers.
+pub fn fewer(a: usize, b: usize) -> usize
+    ensures { λ r. ⌜ r ≡ min a b ⌝ }
+{
+    if a < b {
+        return a;
+    }
+    b
 }

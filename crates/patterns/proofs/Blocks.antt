@@ -1,8 +1,9 @@
 -- A loop that fills a block place by place: one turn more is one place more. Stages keep the numbers small, and one stage after k
 -- is k + 1. Each law goes place by place. Assumes nothing.
-use mathlib.Core.Path.{_≡_, refl, ap, _∙_}
+use mathlib.Core.Path.{_≡_, refl, ap, _∙_, subst}
 use mathlib.Core.List.{List}
 use Prim.Native.Nat.{ℕ, _+_, _^_, _≤_, _<_}
+use native.Mathlib.Nat.{le-antisymm}
 use native.Mathlib.Numerals.{add-one}
 use native.Mathlib.Omega.{arith}
 use lib.IntN.{ℤ, pos, natAbs}
@@ -33,6 +34,10 @@ next-done g {before} {block} i v d l e =
 
 pub then-done : {g f : ℕ → ℤ} {n : ℕ} {before block after : List ℤ} → Done f n before block → Done g n block after → Done g n before after
 then-done d e = record { size = e .size ∙ d .size; first = e .first; later = λ j h. e .later j h ∙ d .later j h }
+
+-- after as many turns as there are places to fill, all are filled
+pub all-done : {g : ℕ → ℤ} {j n : ℕ} {before after : List ℤ} → Done g j before after → j ≤ n → n ≤ j → Done g n before after
+all-done {g} {before = before} {after} d h l = subst (λ (k : ℕ). Done g k before after) (le-antisymm h l) d
 
 -- numbers that stay small
 pub done-small : {g : ℕ → ℤ} {n : ℕ} {before after : List ℤ} → Done g n before after → n ≤ length before → ((j : ℕ) → j < n → natAbs (g j) ≤ 2 ^ 15) → Small n after

@@ -1,7 +1,7 @@
 // What stages of design 3 leave of a block of numbers, one stage over the whole block before the next, so that a stage is vector code
 // for any number of stages. The steps inside take sizes of at most 2^15, which the block keeps; the numbers that come in are any.
 ghost use mathlib.Core.Path.{_≡_};
-ghost use Prim.Native.Nat.{min, _^_, _≤_};
+ghost use Prim.Native.Nat.{_^_, _≤_};
 ghost use lib.IntN.{natAbs};
 ghost use Rattle.designs.specs.Signs.{restℤ};
 ghost use Rattle.patterns.specs.Blocks.{Copied, Done, Left, place, Room, Small};
@@ -40,20 +40,11 @@ fn copy(n: usize, numbers: &[i16], block: &mut [i32])
     }
 }
 
-fn smaller(a: usize, b: usize) -> usize
-    ensures { λ r. ⌜ r ≡ min a b ⌝ }
-{
-    if a < b {
-        return a;
-    }
-    b
-}
-
 // What the stages leave of the first numbers, as many as there are places for them, each with its sign. Later places keep their contents.
 pub fn stages_left(stages: u32, numbers: &[i16], left: &mut [i32])
     ensures { λ r. ⌜ Left stages (now (numbers .entry)) (now (left .entry)) (now (left .exit)) ⌝ }
 {
-    let n = smaller(numbers.len(), left.len());
+    let n = pairs::fewer(numbers.len(), left.len());
     copy(n, numbers, left);
     let mut k = 0;
     while k < stages {

@@ -1,5 +1,4 @@
-pub mod Filling
-pub mod LeftOfBlock
+pub mod PartOfRow
 pub mod Turn
 pub mod Whole
 pub mod Pair

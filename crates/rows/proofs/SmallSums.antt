@@ -13,7 +13,8 @@ use Rattle.designs.specs.Signs.{residue, signedProduct}
 use Rattle.designs.proofs.RowSums.{sum-minus}
 use Rattle.designs.proofs.Sizes.{size-add}
 use Rattle.rows.specs.Answers.{Fits16, Small}
-use Rattle.rows.specs.Blocks.{ofPair, total, count}
+use Rattle.blocks.specs.Residues.{ofPair}
+use Rattle.rows.specs.Totals.{total, count}
 use Rattle.rows.proofs.Pair.{Bounds, bounds, most}
 use Rattle.rows.proofs.Whole.{wholeℤ, wholeℕ}
 

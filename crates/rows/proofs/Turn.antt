@@ -14,7 +14,8 @@ use Rattle.designs.proofs.Sizes.{size-add}
 use Rattle.rows.specs.Answers.{Fits16}
 use Rattle.patterns.proofs.Blocks.{next-done, none-done}
 use Rattle.pairs.proofs.Integers.{true-size}
-use Rattle.rows.specs.Blocks.{ofPair, total, count, Reached, Roomy, withPair}
+use Rattle.blocks.specs.Residues.{ofPair}
+use Rattle.rows.specs.Totals.{total, count, Reached, Roomy, withPair}
 use Rattle.rows.specs.declared.sums.Sums.{Sums}
 
 total-next : (f : ℕ → ℤ) (n : ℕ) → total f (n + 1) ≡ total f n +ℤ f n

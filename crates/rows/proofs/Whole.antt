@@ -16,7 +16,8 @@ use Rattle.designs.specs.Signs.{residue, signedProduct}
 use Rattle.designs.proofs.Cases.{either-lt}
 use Rattle.designs.proofs.Prefixes.{pairwise-length, sumℤ-next, sum-next}
 use Rattle.designs.proofs.RowSums.{sum-minus}
-use Rattle.rows.specs.Blocks.{ofPair, total, count, Reached, reportBy}
+use Rattle.blocks.specs.Residues.{ofPair}
+use Rattle.rows.specs.Totals.{total, count, Reached, reportBy}
 use Rattle.rows.specs.declared.sums.Sums.{Sums}
 
 -- totals and sums

@@ -4,7 +4,7 @@ ghost use mathlib.Core.Path.{_≡_};
 ghost use Rattle.designs.specs.Rows.{emptyReport};
 ghost use Rattle.rows.specs.Answers.{Scoring, reportOf};
 
-mod blocks;
+mod choice;
 mod sums;
 
 // The report of a row: `magnitude_sum` is the scope's T, and `nonzero_pairs` its n. It is laid out as C has it.

@@ -4,10 +4,10 @@ ghost use Prim.Native.Nat.{ℕ, _+_, _^_, _<_};
 ghost use mathlib.Core.List.{List};
 ghost use lib.IntN.{ℤ, natAbs};
 ghost use Rattle.rows.specs.Answers.{Ready, reportOf, Summed};
-ghost use Rattle.rows.specs.Blocks.{Addable, BlockLength, Reached, reportBy, Roomy, withPair};
+ghost use Rattle.rows.specs.Totals.{Addable, Reached, reportBy, Roomy, withPair};
 use crate::RowReport;
-use crate::blocks::BLOCK;
-use crate::blocks::UNSET;
+use blocks::BLOCK;
+use blocks::UNSET;
 
 // The sums of some pairs. Their number has 32 bits, so that the compiler counts four pairs at a time.
 struct Sums {
@@ -38,22 +38,12 @@ pub(crate) fn accumulate(
     let mut block = [UNSET; BLOCK];
     let mut at = 0;
     while at < weights.len() {
-        let count = block_length(weights.len() - at);
-        crate::blocks::fill(design, setting, weights, frame, at, count, &mut block[..]);
+        let count = pairs::fewer(weights.len() - at, BLOCK);
+        crate::choice::fill(design, setting, weights, frame, at, count, &mut block[..]);
         sums = add(sums, weights, frame, at, count, &block[..], residues);
         at += count;
     }
     report_of(sums)
-}
-
-// How many pairs the next block has, where some are left.
-fn block_length(left: usize) -> usize
-    ensures { λ r. ⌜ BlockLength left r ⌝ }
-{
-    if BLOCK < left {
-        return BLOCK;
-    }
-    left
 }
 
 // Adds a block to the sums of the pairs before it, and writes its residues to their places.

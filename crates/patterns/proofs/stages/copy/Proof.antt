@@ -1,17 +1,14 @@
 -- After i turns the first i numbers stand at the front of the block, and each is of 16 bits. Assumes nothing.
 use borrow.Author.Needs.{needs}
 use borrow.Author.Count.{below-more}
-use mathlib.Core.Path.{subst}
-use mathlib.Core.List.{List}
 use Prim.Native.Nat.{ℕ, _-_, _^_, _≤_, _<_}
-use native.Mathlib.Nat.{le-antisymm}
 use native.Mathlib.Omega.{arith}
-use lib.IntN.{ℤ, natAbs}
+use lib.IntN.{natAbs}
 use lib.ListN.{length}
 use mir.Syntax.{w16}
 use mir.Val.{SFits}
 use Rattle.patterns.specs.Blocks.{Done, place}
-use Rattle.patterns.proofs.Blocks.{done-small, next-done, none-done}
+use Rattle.patterns.proofs.Blocks.{all-done, done-small, next-done, none-done}
 use Rattle.pairs.proofs.Integers.{size16, widened, widens}
 use Rattle.patterns.proofs.stages.copy.Statement.{statement}
 use Rattle.patterns.proofs.stages.copy.Tie as tie
@@ -58,17 +55,9 @@ loop-again c =
       omega (arith, c .before .loop-test .taken),
     )
 
--- all n turns
-module _ (c : tie.After-loop Inv-loop μ-loop) where
-  abbrev numbers : List ℤ
-  numbers = c .before .before .args .numbers .now
-
-  abbrev before : List ℤ
-  before = c .before .before .args .block .now
-
-  all : Done (place numbers) (c .before .before .args .n) before (c .before .loop .block)
-  all =
-      subst (λ (n : ℕ). Done (place numbers) n before (c .before .loop .block)) (le-antisymm (c .before .loop .inv .2) (c .loop-test .left)) (c .before .loop .inv .0)
+all : (c : tie.After-loop Inv-loop μ-loop)
+    → Done (place (c .before .before .args .numbers .now)) (c .before .before .args .n) (c .before .before .args .block .now) (c .before .loop .block)
+all c = all-done (c .before .loop .inv .0) (c .before .loop .inv .2) (c .loop-test .left)
 
 returns : tie.Need-returns Inv-loop μ-loop
 returns c =

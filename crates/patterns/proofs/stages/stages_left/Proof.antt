@@ -42,7 +42,7 @@ returns c =
     let start = c .before .before .before .before .before .before in
     let numbers = start .args .numbers .now in
     let loop = c .before .loop in
-    let n-is = c .before .before .before .before .before .smaller .ensures in
+    let n-is = c .before .before .before .before .before .fewer .ensures in
     record {
       done =
           subst₂ (λ (k n : ℕ). After numbers k n (start .args .left .now) (loop .left)) (le-antisymm (loop .inv .2) (c .loop-test .left)) n-is

@@ -8,7 +8,8 @@ use lib.IntN.{ℤ}
 use lib.ListN.{length}
 use Rattle.designs.specs.Products.{designOf}
 use Rattle.designs.specs.Signs.{residue}
-use Rattle.rows.specs.Blocks.{Addable, Fillable, ofPair, Reached}
+use Rattle.blocks.specs.Residues.{ofPair}
+use Rattle.rows.specs.Totals.{Addable, Fillable, Reached}
 use Rattle.rows.proofs.Whole.{whole-report, whole-residues}
 use Rattle.rows.proofs.Turn.{nothing, roomy}
 use Rattle.rows.proofs.sums.accumulate.Statement.{statement}
@@ -33,10 +34,13 @@ module _ (c : tie.After-block Inv-loop μ-loop) where
   at = c .before .before .before .loop .at
 
   abbrev n : ℕ
-  n = c .before .block-length .result
+  n = c .before .fewer .result
 
   inside : at + n ≤ length (start .args .weights .now)
-  inside = omega (arith, c .before .block-length .ensures .few, c .before .before .before .loop .inv .0)
+  inside = omega (arith, c .before .fewer .ensures, c .before .before .before .loop .inv .0)
+
+  few : n ≤ 32
+  few = omega (arith, c .before .fewer .ensures)
 
   fillable : Fillable (start .args .design) (start .args .setting) (start .args .weights .now) (start .args .frame .now) (c .before .before .before .loop .block) at n
   fillable =
@@ -45,9 +49,9 @@ module _ (c : tie.After-block Inv-loop μ-loop) where
             record {
               weights = inside;
               frame = omega (arith, inside, start .pre .lengths);
-              room = omega (arith, c .before .block-length .ensures .fits, c .before .before .before .loop .inv .1);
+              room = omega (arith, few, c .before .before .before .loop .inv .1);
             };
-        short = c .before .block-length .ensures .fits;
+        few = few;
         kept = start .pre .kept;
       }
 
@@ -74,7 +78,7 @@ module _ (c : tie.After-fill Inv-loop μ-loop) where
             record {
               weights = inside here;
               frame = omega (arith, inside here, start here .pre .lengths);
-              room = omega (arith, here .before .block-length .ensures .fits, block-long);
+              room = omega (arith, few here, block-long);
             };
         pairs = omega (arith, inside here, start here .pre .pairs);
         room = omega (arith, inside here, start here .pre .places);
@@ -87,7 +91,7 @@ add-requires c κs = (_, (_, addable (c .before .before .before)))
 loop-less : tie.Need-loop-less Inv-loop μ-loop
 loop-less c =
     let block = c .before .before .before .before .before .before in
-    omega (arith, inside block, block .before .block-length .ensures .some (omega (arith, block .before .before .loop-test .taken)))
+    omega (arith, inside block, block .before .fewer .ensures, block .before .before .loop-test .taken)
 
 loop-again : tie.Need-loop-again Inv-loop μ-loop
 loop-again c =

@@ -12,7 +12,8 @@ use lib.Signed.{natAbs-le}
 use mir.Syntax.{w16, w32, w64}
 use mir.Val.{SFits, toZ, ofZ}
 use mir.Facts.{toZ-ofZ, sfits-widen}
-use Rattle.rows.specs.Blocks.{Addable, Reached, ofPair, withPair}
+use Rattle.blocks.specs.Residues.{ofPair}
+use Rattle.rows.specs.Totals.{Addable, Reached, withPair}
 use Rattle.rows.proofs.Turn.{roomy, turn}
 use Rattle.rows.proofs.sums.add.Statement.{statement}
 use Rattle.rows.proofs.sums.add.Tie as tie

@@ -1,0 +1,89 @@
+-- What the loops over a row keep: totals over its first pairs, and their residues in the first places. Definitions only.
+use mathlib.Core.Path.{_≡_}
+use Prim.Native.Nat.{ℕ, zero, suc, _+_, _*_, _^_, _≤_, _<_}
+use mathlib.Core.List.{List}
+use lib.IntN.{ℤ, pos, natAbs, _+ℤ_, _-ℤ_, _*ℤ_}
+use lib.ListN.{length}
+use Rattle.designs.specs.Designs.{Keeps}
+use Rattle.designs.specs.Products.{designOf}
+use Rattle.designs.specs.Rows.{Report, nonzero}
+use Rattle.patterns.specs.Blocks.{Done, place}
+use Rattle.patterns.specs.Patterns.{clamped}
+use Rattle.blocks.specs.Residues.{ofPair}
+use Rattle.rows.specs.Answers.{Fits16}
+use Rattle.rows.specs.declared.sums.Sums.{Sums}
+
+-- the sum of f over the numbers below n
+unfoldable pub total : (ℕ → ℤ) → ℕ → ℤ
+total f zero = pos 0
+total f (suc n) = total f n +ℤ f n
+
+unfoldable pub count : (ℕ → ℕ) → ℕ → ℕ
+count f zero = 0
+count f (suc n) = count f n + f n
+
+-- a block of n pairs of a row, those from `from` on: they are pairs of it, and the block has places for them
+pub record Inside (ws fs block : List ℤ) (from n : ℕ) : Type 0 where
+  pub weights : from + n ≤ length ws
+  pub frame : from + n ≤ length fs
+  pub room : n ≤ length block
+
+-- such a block, which a design that has been judged can fill
+pub record Fillable (design setting : ℕ) (ws fs block : List ℤ) (from n : ℕ) : Type 0 where
+  pub inside : Inside ws fs block from n
+  pub few : n ≤ 32
+  pub kept : Keeps (λ t. clamped t ≡ t) (designOf design setting)
+
+-- its first n places hold what z gives for these pairs
+abbrev pub Holds : (ℕ → ℤ) → ℕ → ℕ → List ℤ → Type 0
+Holds z from n block = (k : ℕ) → k < n → place block k ≡ z (from + k)
+
+-- sums that have room for a pair more
+pub record Roomy (s : Sums) : Type 0 where
+  pub true-sum : natAbs (s .«true_sum») < 2 ^ 62
+  pub error : natAbs (s .error) < 2 ^ 62
+  pub magnitude-sum : s .«magnitude_sum» < 2 ^ 62
+  pub pairs : s .«nonzero_pairs» < 2 ^ 31
+
+-- the sums with the pair w, x, whose residue is r
+abbrev pub withPair : Sums → ℤ → ℤ → ℤ → Sums
+withPair s w x r =
+    record {
+      «true_sum» = s .«true_sum» +ℤ w *ℤ x;
+      error = s .error +ℤ r;
+      «magnitude_sum» = s .«magnitude_sum» + natAbs (w *ℤ x);
+      «nonzero_pairs» = s .«nonzero_pairs» + nonzero w x;
+    }
+
+-- the report that the sums make
+abbrev pub reportBy : Sums → Report
+reportBy s =
+    record {
+      score = s .«true_sum» -ℤ s .error;
+      trueSum = s .«true_sum»;
+      error = s .error;
+      magnitudeSum = s .«magnitude_sum»;
+      nonzeroPairs = s .«nonzero_pairs»;
+    }
+
+-- What has been reached after n pairs of a row whose residues are z: the sums of these pairs, each with a bound that n gives it, and
+-- their residues in the first n places. The later places are as they were before.
+pub record Reached (z : ℕ → ℤ) (ws fs before after : List ℤ) (n : ℕ) (s : Sums) : Type 0 where
+  pub true-is : s .«true_sum» ≡ total (ofPair _*ℤ_ ws fs) n
+  pub error-is : s .error ≡ total z n
+  pub magnitude-is : s .«magnitude_sum» ≡ count (ofPair (λ w x. natAbs (w *ℤ x)) ws fs) n
+  pub pairs-is : s .«nonzero_pairs» ≡ count (ofPair nonzero ws fs) n
+  pub true-size : natAbs (s .«true_sum») ≤ n * 2 ^ 30
+  pub error-size : natAbs (s .error) ≤ n * 2 ^ 31
+  pub magnitude-size : s .«magnitude_sum» ≤ n * 2 ^ 30
+  pub pairs-size : s .«nonzero_pairs» ≤ n
+  pub fits : (k : ℕ) → k < n → Fits16 ws fs k
+  pub places : Done z n before after
+
+-- what adding a block of n pairs asks, whatever the residues z are
+pub record Addable (z : ℕ → ℤ) (s : Sums) (ws fs block before places : List ℤ) (from n : ℕ) : Type 0 where
+  pub reached : Reached z ws fs before places from s
+  pub inside : Inside ws fs block from n
+  pub pairs : from + n ≤ 4096
+  pub room : from + n ≤ length before
+  pub filled : Holds z from n block

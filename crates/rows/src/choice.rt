@@ -1,0 +1,32 @@
+// The choice of a row's design, by its number.
+ghost use Rattle.designs.specs.Products.{designOf};
+ghost use Rattle.designs.specs.Signs.{residue};
+ghost use Rattle.blocks.specs.Residues.{ofPair};
+ghost use Rattle.rows.specs.Totals.{Fillable, Holds};
+
+// Fills a block with the residues of `count` pairs of a row, from `from` on, by a design and a setting that have been judged.
+pub(crate) fn fill(
+    design: u32,
+    setting: u32,
+    weights: &[i16],
+    frame: &[i16],
+    from: usize,
+    count: usize,
+    block: &mut [i32],
+)
+    requires { ⌜ Fillable design setting (now weights) (now frame) (now block) from count ⌝ }
+    ensures { λ r. ⌜ Holds (ofPair (residue (designOf design setting)) (now (weights .entry)) (now (frame .entry))) from count (now (block .exit)) ⌝ }
+{
+    let end = from + count;
+    let w = &weights[from..end];
+    let x = &frame[from..end];
+    if design == 1 {
+        blocks::mitchell_residues(w, x, block);
+    } else if design == 2 {
+        blocks::nearest_residues(w, x, block);
+    } else if design == 3 {
+        blocks::staged_residues(setting, w, x, block);
+    } else {
+        blocks::truncated_residues(setting, w, x, block);
+    }
+}
