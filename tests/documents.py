@@ -16,7 +16,12 @@ sys.dont_write_bytecode = True
 
 from pages import README, ROOT, TRACE, finish, report, table_rows, text
 
+sys.path.insert(0, str(ROOT / 'tools'))
+
+from edits import wrong_programs  # noqa: E402
+
 CRATES = {path.name for path in (ROOT / 'crates').iterdir()}
+EDITS = {f'{crate}/{name}' for crate, _, name, _ in wrong_programs()}
 # notes of landings name what is gone, so they are not read
 DOCUMENTS = [README, *sorted(f'docs/{path.name}' for path in (ROOT / 'docs').glob('*.md'))]
 # words that stand for any name; endings of files; crates of the kit, and types of the language
@@ -54,9 +59,7 @@ def is_in_source(crate, *names):
 
 def is_path(word):
     pattern = ANY.sub('*', word).rstrip('/')
-    edit = re.fullmatch(r'(\w+)/(\w+)', pattern)
-    return (word.startswith('target/') or any(ROOT.glob(pattern)) or any(ROOT.glob(f'crates/*/{pattern}'))
-            or bool(edit) and (ROOT / f'crates/{edit[1]}/must-fail/{edit[2]}.edit').exists())
+    return word.startswith('target/') or word in EDITS or any(ROOT.glob(pattern)) or any(ROOT.glob(f'crates/*/{pattern}'))
 
 
 def check_examples():
@@ -141,7 +144,6 @@ def check_citations(place, cell, cited):
 
 
 def check_trace():
-    edits = {f'{path.parent.parent.name}/{path.stem}' for path in ROOT.glob('crates/*/must-fail/*.edit')}
     guarded, cited = set(), set()
     for place, row in table_rows(TRACE):
         crate = None
@@ -149,11 +151,11 @@ def check_trace():
             crate = edit.split('/')[0] if '/' in edit else crate
             edit = edit if '/' in edit else f'{crate}/{edit}'
             guarded.add(edit)
-            if edit not in edits:
+            if edit not in EDITS:
                 report(place, f'there is no edit {edit}')
         for cell in row.values():
             check_citations(place, cell, cited)
-    for edit in sorted(edits - guarded):
+    for edit in sorted(EDITS - guarded):
         report(TRACE, f'the edit {edit} is not cited')
     for path in sorted(ROOT.glob('crates/*/src/*.rt')):
         crate = path.parent.parent.name

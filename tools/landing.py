@@ -15,6 +15,11 @@ import sys
 import tempfile
 import time
 
+# nothing is to appear beside the tools
+sys.dont_write_bytecode = True
+
+from edits import sections  # noqa: E402
+
 # the files of a crate
 PARTS = {'source': r'src/.*\.rt', 'definitions': r'specs/.*\.antt', 'proofs': r'proofs/.*\.antt', 'edits': r'must-fail/.*\.edit'}
 # what is compared, and in which of them it stands
@@ -125,6 +130,11 @@ def pieces(files, kind):
             inner = definitions(text.splitlines())
         elif kind == 'contracts':
             inner = contracts(text)
+        elif kind == 'edits':
+            # wrong programs that are tried together stand in one file, and each is compared by its own name
+            tried = {name: lines for name, (_, lines) in sections(text).items()} or {path.split('/')[-1].removesuffix('.edit'): text.strip()}
+            found.update({(f'{crate_of(path)}/must-fail/{name}.edit', ''): lines for name, lines in tried.items()})
+            continue
         else:
             inner = {'': text}
         found.update({(path, name): piece for name, piece in inner.items()})
@@ -164,7 +174,7 @@ def compared(old, new, was):
     come = {piece: text for piece, text in new.items() if piece not in old}
     for piece, text in old.items():
         if piece not in new:
-            before = shown(was[piece[0]], piece[1])
+            before = shown(was.get(piece[0], piece[0]), piece[1])
             other, changed = became(piece, text, come)
             if other:
                 del come[other]
@@ -223,7 +233,7 @@ def main():
     old_crates, new_crates = set(names.values()), set(map(crate_of, new_files))
     crates += [f'`{name}` is new' for name in sorted(new_crates - old_crates)] + [f'`{name}` is gone' for name in sorted(old_crates - new_crates)]
     files = [f'{shown(path)} to {shown(now)}' for path, now in sorted(moved.items())
-             if path in old_files and now in new_files and now != names[crate_of(path)] + path[len(crate_of(path)):]]
+             if path in old_files and now in new_files and part_of(now) != 'edits' and now != names[crate_of(path)] + path[len(crate_of(path)):]]
     for title, found in (('Crates', crates), ('Files renamed', files)):
         if found:
             print(f'\n**{title}**: ' + '; '.join(found) + '.')

@@ -43,7 +43,7 @@ module _ (D : Design) (k : KeepsBit D) {w x : ℤ} (hw : SFits w16 w) (hx : SFit
   abbrev sign : Bool
   sign = unlike (negative w) (negative x)
 
-  product-size : product D A B < 2 ^ 31
+  pub product-size : product D A B < 2 ^ 31
   product-size = size-lt D k 15 A B (size16 hw) (size16 hx)
 
   pub residue-size : natAbs (residue D w x) < 2 ^ 31
