@@ -4,7 +4,7 @@
     python3 tools/edits.py CRATE NAME...        tries these alone, and prints what the checker says at the place of each
 
 An edit file holds one of them, or several wrong programs that are tried in one check, each in a function of its own: a function is proved
-against its own contract and those of what it calls, so that none hides another. Before the replacements of each stands the line
+from its own code and the contracts of what it calls. Before the replacements of each stands the line
 
     # NAME: PLACE
 

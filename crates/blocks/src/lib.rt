@@ -18,7 +18,7 @@ pub const UNSET: i32 = 258;
 // Fewer pairs than these take less time one by one than by stages over a block.
 const FEW: usize = 4;
 
-// By design 1.
+// By design 1, Mitchell's.
 pub fn mitchell_residues(weights: &[i16], frame: &[i16], block: &mut [i32])
     ensures { λ r. ⌜ Filled mitchell (now (weights .entry)) (now (frame .entry)) (now (block .entry)) (now (block .exit)) ⌝ }
 {
@@ -32,7 +32,7 @@ pub fn mitchell_residues(weights: &[i16], frame: &[i16], block: &mut [i32])
     }
 }
 
-// By design 2.
+// By design 2, the nearest power.
 pub fn nearest_residues(weights: &[i16], frame: &[i16], block: &mut [i32])
     ensures { λ r. ⌜ Filled nearest (now (weights .entry)) (now (frame .entry)) (now (block .entry)) (now (block .exit)) ⌝ }
 {
@@ -46,7 +46,7 @@ pub fn nearest_residues(weights: &[i16], frame: &[i16], block: &mut [i32])
     }
 }
 
-// By design 4; fewer kept bits than 1 act as 1, and more than 15 as 15.
+// By design 4, truncated; fewer kept bits than 1 act as 1, and more than 15 as 15.
 pub fn truncated_residues(kept_bits: u32, weights: &[i16], frame: &[i16], block: &mut [i32])
     ensures { λ r. ⌜ Filled (truncated (clamped «kept_bits»)) (now (weights .entry)) (now (frame .entry)) (now (block .entry)) (now (block .exit)) ⌝ }
 {
@@ -60,7 +60,7 @@ pub fn truncated_residues(kept_bits: u32, weights: &[i16], frame: &[i16], block:
     }
 }
 
-// By design 3.
+// By design 3, in stages.
 pub fn staged_residues(stages: u32, weights: &[i16], frame: &[i16], block: &mut [i32])
     ensures { λ r. ⌜ Filled (staged stages) (now (weights .entry)) (now (frame .entry)) (now (block .entry)) (now (block .exit)) ⌝ }
 {

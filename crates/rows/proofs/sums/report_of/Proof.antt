@@ -1,11 +1,13 @@
 -- Both sums are below 2^62 in size, so their difference fits. Assumes nothing.
 use borrow.Author.Needs.{needs}
 use mathlib.Core.Path.{_≡_, refl}
+use Prim.Native.Nat.{ℕ}
 use native.Mathlib.Omega.{arith}
 use lib.IntN.{ℤ, negℤ, _-ℤ_}
 use mir.Syntax.{w64}
 use mir.Val.{SFits, toZ, ofZ}
 use mir.Facts.{toZ-ofZ}
+use Rattle.designs.specs.Rows.{Report}
 use Rattle.designs.proofs.Sizes.{size-add, size-neg}
 use Rattle.signs.proofs.Integers.{fits-as, read-as, sized}
 use Rattle.rows.proofs.sums.report_of.Statement.{statement}
@@ -30,10 +32,14 @@ module _ (c : tie.Start) where
   score-fits : SFits w64 (t -ℤ e)
   score-fits = sized (t -ℤ e) (omega (arith, size-add t (negℤ e), size-neg e, c .pre .true-sum, c .pre .error))
 
+equal : {a a' t t' e e' : ℤ} {m n : ℕ} → a ≡ a' → t ≡ t' → e ≡ e'
+    → _≡_ {A = Report} (record { score = a; trueSum = t; error = e; magnitudeSum = m; nonzeroPairs = n }) (record { score = a'; trueSum = t'; error = e'; magnitudeSum = m; nonzeroPairs = n })
+equal ea et ee = rw (ea, et, ee) refl
+
 returns : tie.Need-returns
 returns c =
     let s = c .before .before .before .before in
-    rw (read-as (score-is s) (score-fits s), t-read s, e-read s) refl
+    equal (read-as (score-is s) (score-fits s)) (t-read s) (e-read s)
 
 pub report-of-spec : {M : Type 1} → statement M
 report-of-spec =
