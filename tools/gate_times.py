@@ -16,7 +16,7 @@ for name, seconds in re.findall(r'^rt: must-fail (\w+)/.*?; (\d+) s\)$', gate, r
     edits.setdefault(name, []).append(int(seconds))
 if not proofs:
     sys.exit(f'{sys.argv[1]} holds no proof of a gate')
-print('| crate | proofs, s | edits | an edit, s | edits, s |')
+print('| crate | proofs, s | edit files | a file, s | files, s |')
 print('|---|---|---|---|---|')
 for name, seconds in sorted(proofs.items(), key=lambda crate: -sum(edits.get(crate[0], []))):
     tried = edits.get(name, [])
