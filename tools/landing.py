@@ -50,13 +50,14 @@ def files_of(commit):
 
 
 def renames(old, new):
-    """The new path of each file that git finds renamed."""
+    """The new path of each file that git finds renamed, but for edits, which are compared by name."""
     words = git('diff', '--name-status', '-z', '--find-renames', '--break-rewrites', old, new, '--', 'crates/').split('\0')
     found = {}
     while len(words) > 1:
         status, path = words.pop(0), words.pop(0)
-        if status.startswith('R'):
-            found[path[len('crates/'):]] = words.pop(0)[len('crates/'):]
+        now = words.pop(0) if status.startswith('R') else ''
+        if now and part_of(now[len('crates/'):]) != 'edits':
+            found[path[len('crates/'):]] = now[len('crates/'):]
     return found
 
 
@@ -233,7 +234,7 @@ def main():
     old_crates, new_crates = set(names.values()), set(map(crate_of, new_files))
     crates += [f'`{name}` is new' for name in sorted(new_crates - old_crates)] + [f'`{name}` is gone' for name in sorted(old_crates - new_crates)]
     files = [f'{shown(path)} to {shown(now)}' for path, now in sorted(moved.items())
-             if path in old_files and now in new_files and part_of(now) != 'edits' and now != names[crate_of(path)] + path[len(crate_of(path)):]]
+             if path in old_files and now in new_files and now != names[crate_of(path)] + path[len(crate_of(path)):]]
     for title, found in (('Crates', crates), ('Files renamed', files)):
         if found:
             print(f'\n**{title}**: ' + '; '.join(found) + '.')
