@@ -28,9 +28,11 @@ for path in sorted(ROOT.glob('crates/*/must-fail/*.edit')):
         wrong.append(f'{file}: each replacement stands below a line "# NAME: PLACE", and each such line has one')
     if len(HEAD.findall(text)) != len({place for place, _ in found.values()}):
         wrong.append(f'{file}: two wrong programs of one name or at one place, so that one may hide the other')
-read = 0
+read = set()
 for crate, path, name, place in wrong_programs():
-    read += 1
+    if (crate, name) in read:
+        wrong.append(f'{path.relative_to(ROOT)}: {crate} has two wrong programs {name}')
+    read.add((crate, name))
     what = what_is_wrong(crate, path.stem, place)
     if what:
         wrong.append(f'{path.relative_to(ROOT)}: {name} {what}')
@@ -40,5 +42,5 @@ for crate, path, name, place in wrong_programs():
             wrong.append(f'{path.relative_to(ROOT)}: {proved} is proved, and counts as refused')
 for line in wrong:
     print(line, file=sys.stderr)
-print(f'{read} wrong programs and definitions, {len(wrong)} not refused as they must be')
+print(f'{len(read)} wrong programs and definitions, {len(wrong)} not refused as they must be')
 sys.exit(1 if wrong else 0)
