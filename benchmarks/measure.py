@@ -48,10 +48,23 @@ def build(archive, folder):
     for name, flags in RUST_ROWS.items():
         objects.append(folder / f'{name}.o')
         output([*RUST, *flags, HERE / 'row.rs', '-o', objects[-1]])
-    names = ' '.join(f'X({name})' for name in ALL_ROWS)
-    output([*C, '-O2', f'-DIMPLEMENTATIONS={names}', HERE / 'rows.c', *objects, archive, '-o', folder / 'rows'])
+    link_rows(ALL_ROWS, [*objects, archive], folder / 'rows')
     for program in ('operations', 'stack'):
         output([*C, '-O2', HERE / f'{program}.c', archive, '-o', folder / program])
+
+
+def link_rows(names, objects, program):
+    """Links the program that calls rows, of these names, with the objects that have them."""
+    listed = ' '.join(f'X({name})' for name in names)
+    output([*C, '-O2', f'-DIMPLEMENTATIONS={listed}', HERE / 'rows.c', *objects, '-o', program])
+
+
+def archive_of(argument=None):
+    """The archive to measure: the one that is named, or the one that tools/archive makes."""
+    archive = Path(argument or HERE.parent / 'target' / 'libhighvane.a')
+    if not archive.is_file():
+        raise SystemExit(f'benchmarks: there is no archive {archive}; tools/archive makes target/libhighvane.a')
+    return archive.resolve()
 
 
 def counts(program, functions, lines):

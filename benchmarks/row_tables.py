@@ -1,4 +1,4 @@
-"""The tables of scored rows, each as its head and its lines, and where there are several, each with its title first."""
+"""The tables of scored rows, each as its head and its lines, and where there are several, each with its title first. `table` prints one."""
 from measure import BEST_ROWS, C_ROWS, OURS, ROWS, Code, run_bytes, times
 
 PAIRS = 4096
@@ -13,6 +13,14 @@ LENGTHS = [1, 64, PAIRS]
 
 def number(value):
     return f'{value:,}' if isinstance(value, int) else f'{value:,.1f}'
+
+
+def table(head, rows):
+    print(f'| {" | ".join(head)} |')
+    print(f'|{"---|" * len(head)}')
+    for row in rows:
+        print(f'| {" | ".join(row)} |')
+    print()
 
 
 class Rows:

@@ -13,20 +13,12 @@ from pathlib import Path
 
 sys.dont_write_bytecode = True  # nothing is to appear in the repository
 
-from measure import ALL_ROWS, HERE, ROWS, build, counts, output  # noqa: E402
+from measure import ALL_ROWS, ROWS, archive_of, build, counts, output  # noqa: E402
 from row_tables import (DESIGNS, Rows, code_table, design_code_table, growth_tables, number, pair_tables,  # noqa: E402
-                        refusal_table, stage_table, time_tables, wrong_table)
+                        refusal_table, stage_table, table, time_tables, wrong_table)
 
 OPERATIONS = {'unsigned': 'product_unsigned', 'signed': 'product_signed', 'single': 'single_product', 'table': 'table_product',
               'scale': 'scale', 'row_refusal': 'row_refusal', 'transcript': 'transcript'}
-
-
-def table(head, rows):
-    print(f'| {" | ".join(head)} |')
-    print(f'|{"---|" * len(head)}')
-    for row in rows:
-        print(f'| {" | ".join(row)} |')
-    print()
 
 
 def titled(tables):
@@ -107,12 +99,10 @@ def print_tables(rows, folder, agreed):
 def main():
     if len(sys.argv) > 2 or sys.argv[1:] in (['-h'], ['--help']):
         sys.exit(__doc__)
-    archive = Path(sys.argv[1]) if len(sys.argv) == 2 else HERE.parent / 'target' / 'libhighvane.a'
-    if not archive.is_file():
-        sys.exit(f'benchmarks: there is no archive {archive}; tools/archive makes target/libhighvane.a')
+    archive = archive_of(*sys.argv[1:])
     with tempfile.TemporaryDirectory() as name:
         folder = Path(name)
-        build(archive.resolve(), folder)
+        build(archive, folder)
         agreed = output([folder / 'rows', 'check'])
         rows = Rows()
         for ask in (pair_tables, wrong_table, growth_tables, refusal_table, stage_table):

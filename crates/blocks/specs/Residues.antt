@@ -1,6 +1,6 @@
 -- The residues of the first pairs of two slices, in the first places of a block. Definitions only.
 use mathlib.Core.List.{List}
-use Prim.Native.Nat.{ℕ, min, _≤_}
+use Prim.Native.Nat.{ℕ, min}
 use lib.IntN.{ℤ}
 use lib.ListN.{length}
 use Rattle.designs.specs.Designs.{Design}
@@ -14,13 +14,6 @@ ofPair q ws fs k = q (place ws k) (place fs k)
 -- how many pairs are taken of two slices of these lengths, for a block of so many places: no more than 32
 abbrev pub pairsOf : ℕ → ℕ → ℕ → ℕ
 pairsOf weights frame places = min (min weights frame) (min places 32)
-
--- there are n pairs, and places for them
-pub record Inside (ws fs : List ℤ) (n : ℕ) (block : List ℤ) : Type 0 where
-  pub weights : n ≤ length ws
-  pub frame : n ≤ length fs
-  pub room : n ≤ length block
-  pub few : n ≤ 32
 
 -- the first n places hold the residues of the first n pairs, and the later ones what they held before
 abbrev pub Residues : Design → List ℤ → List ℤ → ℕ → List ℤ → List ℤ → Type 0

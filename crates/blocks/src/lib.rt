@@ -6,7 +6,7 @@ ghost use lib.IntN.{_*ℤ_};
 ghost use Rattle.designs.specs.Designs.{mitchell, nearest, staged, truncated};
 ghost use Rattle.patterns.specs.Blocks.{Done, place, Small};
 ghost use Rattle.patterns.specs.Patterns.{clamped};
-ghost use Rattle.blocks.specs.Residues.{Filled, Inside, pairsOf, Residues};
+ghost use Rattle.blocks.specs.Residues.{Filled, pairsOf};
 
 // The most pairs of a block.
 pub const BLOCK: usize = 32;
@@ -14,9 +14,6 @@ pub const BLOCK: usize = 32;
 // What a place of a block holds before it is filled. The bytes of this number differ: equal ones, as those of 0 are, the compiler would set
 // by a call of a C function, which the archive has not.
 pub const UNSET: i32 = 258;
-
-// Fewer pairs than these take less time one by one than by stages over a block.
-const FEW: usize = 4;
 
 // By design 1, Mitchell's.
 pub fn mitchell_residues(weights: &[i16], frame: &[i16], block: &mut [i32])
@@ -60,16 +57,15 @@ pub fn truncated_residues(kept_bits: u32, weights: &[i16], frame: &[i16], block:
     }
 }
 
-// By design 3, in stages.
+// By design 3: what the stages leave of both numbers of each pair, multiplied.
 pub fn staged_residues(stages: u32, weights: &[i16], frame: &[i16], block: &mut [i32])
     ensures { λ r. ⌜ Filled (staged stages) (now (weights .entry)) (now (frame .entry)) (now (block .entry)) (now (block .exit)) ⌝ }
 {
     let n = pairs_of(weights.len(), frame.len(), block.len());
-    if n < FEW {
-        one_by_one(stages, weights, frame, n, block);
-    } else {
-        by_stages(stages, weights, frame, n, block);
-    }
+    let mut other = [UNSET; BLOCK];
+    patterns::stages_left(stages, &weights[..n], block);
+    patterns::stages_left(stages, &frame[..n], &mut other[..]);
+    multiply(n, block, &other[..]);
 }
 
 // How many pairs are taken of two slices of these lengths, for a block of so many places.
@@ -77,31 +73,6 @@ fn pairs_of(weights: usize, frame: usize, places: usize) -> usize
     ensures { λ r. ⌜ r ≡ pairsOf weights frame places ⌝ }
 {
     pairs::fewer(pairs::fewer(weights, frame), pairs::fewer(places, BLOCK))
-}
-
-// The first n pairs, each by the kernel.
-fn one_by_one(stages: u32, weights: &[i16], frame: &[i16], n: usize, block: &mut [i32])
-    requires { ⌜ Inside (now weights) (now frame) n (now block) ⌝ }
-    ensures { λ r. ⌜ Residues (staged stages) (now (weights .entry)) (now (frame .entry)) n (now (block .entry)) (now (block .exit)) ⌝ }
-{
-    let mut j = 0;
-    while j < n {
-        let w = weights[j];
-        let x = frame[j];
-        block[j] = patterns::staged_residue(stages, w, x);
-        j += 1;
-    }
-}
-
-// The first n pairs: what the stages leave of both numbers of each, multiplied.
-fn by_stages(stages: u32, weights: &[i16], frame: &[i16], n: usize, block: &mut [i32])
-    requires { ⌜ Inside (now weights) (now frame) n (now block) ⌝ }
-    ensures { λ r. ⌜ Residues (staged stages) (now (weights .entry)) (now (frame .entry)) n (now (block .entry)) (now (block .exit)) ⌝ }
-{
-    let mut other = [UNSET; BLOCK];
-    patterns::stages_left(stages, &weights[..n], block);
-    patterns::stages_left(stages, &frame[..n], &mut other[..]);
-    multiply(n, block, &other[..]);
 }
 
 // Multiplies the first n places of a block by those of another.

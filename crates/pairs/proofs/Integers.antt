@@ -1,15 +1,15 @@
--- Signed machine numbers: 16-bit ones widened to 32 bits, their sizes and tests, and what fits an i32. Each law goes by the two
+-- Signed machine numbers: widened ones, their sizes and tests, and what fits an i32. Each law goes by the two
 -- constructors of ℤ. Assumes nothing.
 use mathlib.Core.Path.{_≡_, refl, sym, ap₂, _∙_}
 use Prim.Native.Nat.{_^_, _≤_, _<_}
 use native.Mathlib.Nat.{mul-le-mul}
 use native.Mathlib.Omega.{arith}
 use mathlib.Core.Bool.{true, false, false≢true}
-use lib.Dec.{T}
+use lib.Dec.{leb, T}
 use lib.IntN.{ℤ, pos, negsuc, negℤ, natAbs, _*ℤ_}
 use lib.Signed.{mag, natAbs-le, nonNeg}
-use mir.Syntax.{w16, w32}
-use mir.Val.{Fits, SFits, toZ, ofZ}
+use mir.Syntax.{w16, w32, Width}
+use mir.Val.{Fits, hbits, SFits, toZ, ofZ}
 use mir.Facts.{toZ-ofZ, sfits-widen}
 use Rattle.designs.specs.Signs.{negative}
 use Rattle.designs.proofs.Sizes.{size-true}
@@ -17,11 +17,12 @@ use Rattle.designs.proofs.Sizes.{size-true}
 pub size16 : {x : ℤ} → SFits w16 x → natAbs x ≤ 2 ^ 15
 size16 {x} h = natAbs-le x (h .sfits)
 
-pub widens : {x : ℤ} → SFits w16 x → SFits w32 (toZ w16 (ofZ w16 x))
-widens h = rw (toZ-ofZ h) (sfits-widen tt h)
+-- a number of a narrow width in a wider one
+pub widens : {v w : Width} {x : ℤ} → T (leb (hbits v) (hbits w)) → SFits v x → SFits w (toZ v (ofZ v x))
+widens wider h = rw (toZ-ofZ h) (sfits-widen wider h)
 
-pub widened : {x : ℤ} → SFits w16 x → toZ w32 (ofZ w32 (toZ w16 (ofZ w16 x))) ≡ x
-widened h = rw (toZ-ofZ h) (toZ-ofZ (sfits-widen tt h))
+pub widened : {v : Width} (w : Width) {x : ℤ} → T (leb (hbits v) (hbits w)) → SFits v x → toZ w (ofZ w (toZ v (ofZ v x))) ≡ x
+widened w wider h = rw (toZ-ofZ h) (toZ-ofZ (sfits-widen wider h))
 
 -- a number of a size below 2^31 fits
 pub sized : (x : ℤ) → natAbs x < 2 ^ 31 → SFits w32 x

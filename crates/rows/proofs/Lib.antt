@@ -1,3 +1,4 @@
+pub mod ByNumber
 pub mod PartOfRow
 pub mod Turn
 pub mod Whole

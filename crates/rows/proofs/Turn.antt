@@ -15,7 +15,7 @@ use Rattle.rows.specs.Answers.{Fits16}
 use Rattle.patterns.proofs.Blocks.{next-done, none-done}
 use Rattle.pairs.proofs.Integers.{true-size}
 use Rattle.blocks.specs.Residues.{ofPair}
-use Rattle.rows.specs.Totals.{total, count, Reached, Roomy, withPair}
+use Rattle.rows.specs.Totals.{total, count, noSums, Reached, Roomy, withPair}
 use Rattle.rows.specs.declared.sums.Sums.{Sums}
 
 total-next : (f : ℕ → ℤ) (n : ℕ) → total f (n + 1) ≡ total f n +ℤ f n
@@ -35,10 +35,7 @@ counts-once w x = once (natAbs w) (natAbs x)
     once (suc A) (suc B) = omega arith
 
 -- nothing has been added yet
-abbrev pub none : Sums
-none = record { «true_sum» = pos 0; error = pos 0; «magnitude_sum» = 0; «nonzero_pairs» = 0 }
-
-pub nothing : (z : ℕ → ℤ) (ws fs before : List ℤ) → Reached z ws fs before before 0 none
+pub nothing : (z : ℕ → ℤ) (ws fs before : List ℤ) → Reached z ws fs before before 0 noSums
 unfolding total count
 nothing z ws fs before =
     record {

@@ -4,9 +4,10 @@ use Prim.Native.Nat.{ℕ, zero, suc, _+_, _*_, _^_, _≤_, _<_}
 use mathlib.Core.List.{List}
 use lib.IntN.{ℤ, pos, natAbs, _+ℤ_, _-ℤ_, _*ℤ_}
 use lib.ListN.{length}
-use Rattle.designs.specs.Designs.{Keeps}
+use Rattle.designs.specs.Designs.{Design, Keeps}
 use Rattle.designs.specs.Products.{designOf}
 use Rattle.designs.specs.Rows.{Report, nonzero}
+use Rattle.designs.specs.Signs.{residue}
 use Rattle.patterns.specs.Blocks.{Done, place}
 use Rattle.patterns.specs.Patterns.{clamped}
 use Rattle.blocks.specs.Residues.{ofPair}
@@ -45,6 +46,10 @@ pub record Roomy (s : Sums) : Type 0 where
   pub magnitude-sum : s .«magnitude_sum» < 2 ^ 62
   pub pairs : s .«nonzero_pairs» < 2 ^ 31
 
+-- the sums of no pairs
+abbrev pub noSums : Sums
+noSums = record { «true_sum» = pos 0; error = pos 0; «magnitude_sum» = 0; «nonzero_pairs» = 0 }
+
 -- the sums with the pair w, x, whose residue is r
 abbrev pub withPair : Sums → ℤ → ℤ → ℤ → Sums
 withPair s w x r =
@@ -79,6 +84,10 @@ pub record Reached (z : ℕ → ℤ) (ws fs before after : List ℤ) (n : ℕ) (
   pub pairs-size : s .«nonzero_pairs» ≤ n
   pub fits : (k : ℕ) → k < n → Fits16 ws fs k
   pub places : Done z n before after
+
+-- all pairs of a row have been reached, by a design
+abbrev pub Complete : Design → List ℤ → List ℤ → List ℤ → List ℤ → Sums → Type 0
+Complete D ws fs before after = Reached (ofPair (residue D) ws fs) ws fs before after (length ws)
 
 -- what adding a block of n pairs asks, whatever the residues z are
 pub record Addable (z : ℕ → ℤ) (s : Sums) (ws fs block before places : List ℤ) (from n : ℕ) : Type 0 where

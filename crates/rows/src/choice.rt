@@ -1,6 +1,9 @@
 // The choice of a row's design, by its number.
+ghost use mathlib.Core.Path.{_≡_};
+ghost use Rattle.designs.specs.Designs.{Keeps};
 ghost use Rattle.designs.specs.Products.{designOf};
 ghost use Rattle.designs.specs.Signs.{residue};
+ghost use Rattle.patterns.specs.Patterns.{clamped};
 ghost use Rattle.blocks.specs.Residues.{ofPair};
 ghost use Rattle.rows.specs.Totals.{Fillable, Holds};
 
@@ -29,4 +32,21 @@ pub(crate) fn fill(
     } else {
         blocks::truncated_residues(setting, w, x, block);
     }
+}
+
+// The residue of one pair, by a design and a setting that have been judged.
+pub(crate) fn residue_of(design: u32, setting: u32, w: i16, x: i16) -> i32
+    requires { ⌜ Keeps (λ t. clamped t ≡ t) (designOf design setting) ⌝ }
+    ensures { λ r. ⌜ r ≡ residue (designOf design setting) w x ⌝ }
+{
+    if design == 1 {
+        return patterns::mitchell_residue(w, x);
+    }
+    if design == 2 {
+        return patterns::nearest_residue(w, x);
+    }
+    if design == 3 {
+        return patterns::staged_residue(setting, w, x);
+    }
+    patterns::truncated_residue(setting, w, x)
 }

@@ -1,10 +1,11 @@
-// The sums of a row, block by block.
+// The sums of a row: pair by pair where there are few pairs, and otherwise block by block.
 ghost use mathlib.Core.Path.{_≡_};
 ghost use Prim.Native.Nat.{ℕ, _+_, _^_, _<_};
 ghost use mathlib.Core.List.{List};
 ghost use lib.IntN.{ℤ, natAbs};
+ghost use Rattle.designs.specs.Products.{designOf};
 ghost use Rattle.rows.specs.Answers.{Ready, reportOf, Summed};
-ghost use Rattle.rows.specs.Totals.{Addable, Reached, reportBy, Roomy, withPair};
+ghost use Rattle.rows.specs.Totals.{Addable, Complete, noSums, Reached, reportBy, Roomy, withPair};
 use crate::RowReport;
 use blocks::BLOCK;
 use blocks::UNSET;
@@ -17,8 +18,10 @@ struct Sums {
     nonzero_pairs: u32,
 }
 
-// Goes over the row in blocks: first the residues of a block, which the design alone decides, and then the sums, which are the same for
-// every design.
+// Fewer pairs than these take less time one by one than by a block.
+const FEW: usize = 4;
+
+// The report of a row that can be scored; its residues go to their places.
 pub(crate) fn accumulate(
     design: u32,
     setting: u32,
@@ -29,12 +32,49 @@ pub(crate) fn accumulate(
     requires { ⌜ Ready design setting (now weights) (now frame) (now residues) ⌝ }
     ensures { λ r. ⌜ Summed design setting (now (weights .entry)) (now (frame .entry)) (now (residues .entry)) (now (residues .exit)) r ⌝ }
 {
-    let mut sums = Sums {
-        true_sum: 0,
-        error: 0,
-        magnitude_sum: 0,
-        nonzero_pairs: 0,
-    };
+    if weights.len() < FEW {
+        return report_of(one_by_one(design, setting, weights, frame, residues));
+    }
+    report_of(by_blocks(design, setting, weights, frame, residues))
+}
+
+// Goes over the row pair by pair, and makes no block.
+fn one_by_one(
+    design: u32,
+    setting: u32,
+    weights: &[i16],
+    frame: &[i16],
+    residues: &mut [i64],
+) -> Sums
+    requires { ⌜ Ready design setting (now weights) (now frame) (now residues) ⌝ }
+    ensures { λ r. ⌜ Complete (designOf design setting) (now (weights .entry)) (now (frame .entry)) (now (residues .entry)) (now (residues .exit)) r ⌝ }
+{
+    let mut sums = no_sums();
+    let mut at = 0;
+    while at < weights.len() {
+        let w = weights[at];
+        let x = frame[at];
+        let residue = crate::choice::residue_of(design, setting, w, x) as i64;
+        sums = with_pair(sums, w, x, residue);
+        residues[at] = residue;
+        at += 1;
+    }
+    sums
+}
+
+// Goes over the row in blocks: first the residues of a block, which the design alone decides, and then the sums, which are the same for
+// every design.
+fn by_blocks(
+    design: u32,
+    setting: u32,
+    weights: &[i16],
+    frame: &[i16],
+    residues: &mut [i64],
+) -> Sums
+    requires { ⌜ Ready design setting (now weights) (now frame) (now residues) ⌝ }
+    ensures { λ r. ⌜ Complete (designOf design setting) (now (weights .entry)) (now (frame .entry)) (now (residues .entry)) (now (residues .exit)) r ⌝ }
+{
+    let mut sums = no_sums();
     let mut block = [UNSET; BLOCK];
     let mut at = 0;
     while at < weights.len() {
@@ -43,7 +83,7 @@ pub(crate) fn accumulate(
         sums = add(sums, weights, frame, at, count, &block[..], residues);
         at += count;
     }
-    report_of(sums)
+    sums
 }
 
 // Adds a block to the sums of the pairs before it, and writes its residues to their places.
@@ -70,6 +110,18 @@ fn add(
         j += 1;
     }
     all
+}
+
+// The sums of no pairs.
+fn no_sums() -> Sums
+    ensures { λ r. ⌜ r ≡ noSums ⌝ }
+{
+    Sums {
+        true_sum: 0,
+        error: 0,
+        magnitude_sum: 0,
+        nonzero_pairs: 0,
+    }
 }
 
 // The sums with one pair more.

@@ -5,7 +5,7 @@ use Prim.Native.Nat.{ℕ, _-_, _^_, _≤_, _<_}
 use native.Mathlib.Omega.{arith}
 use lib.IntN.{natAbs}
 use lib.ListN.{length}
-use mir.Syntax.{w16}
+use mir.Syntax.{w16, w32}
 use mir.Val.{SFits}
 use Rattle.patterns.specs.Blocks.{Done, place}
 use Rattle.patterns.proofs.Blocks.{all-done, done-small, next-done, none-done}
@@ -50,7 +50,7 @@ slice-set-from-block c = omega (arith, inside (c .before) .1, c .before .before 
 loop-again : tie.Need-loop-again Inv-loop μ-loop
 loop-again c =
     let inv = c .before .before .loop .inv in (
-      next-done _ (i (c .before)) _ (inv .0) (inside (c .before) .1) (widened (fits c)),
+      next-done _ (i (c .before)) _ (inv .0) (inside (c .before) .1) (widened w32 tt (fits c)),
       below-more _ _ (inv .1) (size16 (fits c)),
       omega (arith, c .before .loop-test .taken),
     )
@@ -75,7 +75,7 @@ copy-spec =
     loop-holds
     mul-z
     (λ c. inside c .0)
-    (λ c. widens (fits c))
+    (λ c. widens tt (fits c))
     mul-t7
     slice-set-from-block
     (λ c. search needs)

@@ -1,32 +1,17 @@
 -- `fill` goes by the number of the design, as `designOf` does, and lends each the part of the row that the block takes. Assumes nothing.
 use borrow.Author.Needs.{needs}
-use mathlib.Core.Path.{_≡_, refl, sym, ap, _∙_, subst}
-use borrow.Author.Tests.{eq-eqb, ne-eqb}
-use Prim.Native.Nat.{ℕ}
+use mathlib.Core.Path.{_≡_}
 use mathlib.Core.List.{List}
 use lib.IntN.{ℤ}
-use Rattle.designs.specs.Designs.{Design, Keeps, mitchell, nearest, staged, truncated}
+use Rattle.designs.specs.Designs.{Design}
 use Rattle.designs.specs.Products.{designOf}
 use Rattle.designs.specs.Signs.{residue}
-use Rattle.patterns.specs.Patterns.{clamped}
 use Rattle.blocks.specs.Residues.{Filled, ofPair}
 use Rattle.rows.specs.Totals.{Holds}
+use Rattle.rows.proofs.ByNumber.{first, second, third, fourth}
 use Rattle.rows.proofs.PartOfRow.{holds, part}
 use Rattle.rows.proofs.choice.fill.Statement.{statement}
 use Rattle.rows.proofs.choice.fill.Tie as tie
-
--- each design, by the tests that lead to it
-first : (d s : ℕ) → d ≡ 1 → mitchell ≡ designOf d s
-first d s e = rw (eq-eqb d 1 e) refl
-
-second : (d s : ℕ) → (d ≡ 1 → ⊥) → d ≡ 2 → nearest ≡ designOf d s
-second d s a e = rw (ne-eqb d 1 a, eq-eqb d 2 e) refl
-
-third : (d s : ℕ) → (d ≡ 1 → ⊥) → (d ≡ 2 → ⊥) → d ≡ 3 → staged s ≡ designOf d s
-third d s a b e = rw (ne-eqb d 1 a, ne-eqb d 2 b, eq-eqb d 3 e) refl
-
-fourth : (d s : ℕ) → (d ≡ 1 → ⊥) → (d ≡ 2 → ⊥) → (d ≡ 3 → ⊥) → truncated s ≡ designOf d s
-fourth d s a b e = rw (ne-eqb d 1 a, ne-eqb d 2 b, ne-eqb d 3 e) refl
 
 -- a block that has been filled, by a design that is the one of its number
 abbrev filled : (c : tie.After-x) {D : Design} {after : List ℤ} → let s = c .before .before in D ≡ designOf (s .args .design) (s .args .setting)
@@ -53,10 +38,7 @@ returns-4 : tie.Need-returns-4
 returns-4 c =
     let test = c .before .before .before in
     let begun = test .before .before .before in
-    let s = begun .before .before in
-    let is = fourth (s .args .design) (s .args .setting) (test .before .before .if1 .left) (test .before .if2 .left) (test .if3 .left) in
-    let kept : clamped (s .args .setting) ≡ s .args .setting = subst (Keeps (λ t. clamped t ≡ t)) (sym is) (s .pre .kept) in
-    filled begun (ap truncated kept ∙ is) (c .before .truncated-residues .ensures)
+    filled begun (fourth _ _ (test .before .before .if1 .left) (test .before .if2 .left) (test .if3 .left) (begun .before .before .pre .kept)) (c .before .truncated-residues .ensures)
 
 pub fill-spec : {M : Type 1} → statement M
 fill-spec =

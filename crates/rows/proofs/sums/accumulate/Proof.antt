@@ -1,141 +1,47 @@
--- Between two blocks the sums are those of the pairs before, whose residues stand in their places; `fill` and `add` take them a block
--- further. Assumes nothing.
+-- Both ways reach all pairs of the row, and the sums of all its pairs make its report. Assumes nothing.
 use borrow.Author.Needs.{needs}
-use mathlib.Core.Path.{_≡_, refl, _∙_}
-use Prim.Native.Nat.{ℕ, _+_, _-_, _≤_}
-use native.Mathlib.Omega.{arith}
+use mathlib.Core.Path.{_≡_, _∙_}
+use mathlib.Core.List.{List}
 use lib.IntN.{ℤ}
-use lib.ListN.{length}
 use Rattle.designs.specs.Products.{designOf}
-use Rattle.designs.specs.Signs.{residue}
-use Rattle.blocks.specs.Residues.{ofPair}
-use Rattle.rows.specs.Totals.{Addable, Fillable, Reached}
+use Rattle.rows.specs.Answers.{reportOf, Summed}
+use Rattle.rows.specs.Totals.{Complete, reportBy}
+use Rattle.rows.specs.declared.RowReport.{RowReport}
+use Rattle.rows.specs.declared.sums.Sums.{Sums}
+use Rattle.rows.proofs.Turn.{roomy}
 use Rattle.rows.proofs.Whole.{whole-report, whole-residues}
-use Rattle.rows.proofs.Turn.{nothing, roomy}
 use Rattle.rows.proofs.sums.accumulate.Statement.{statement}
 use Rattle.rows.proofs.sums.accumulate.Tie as tie
 
-abbrev Inv-loop : tie.InvT-loop
-Inv-loop design setting weights frame residues₀ sums₀ block₀ at₀ residues sums block at =
-    (at ≤ length weights) × (length block ≡ 32) × Reached (ofPair (residue (designOf design setting)) weights frame) weights frame residues₀ residues at sums
-
-abbrev μ-loop : tie.MeasureT-loop
-μ-loop design setting weights frame residues₀ sums₀ block₀ at₀ residues sums block at = length weights - at
-
-loop-holds : tie.Need-loop-holds Inv-loop μ-loop
-loop-holds c = (omega arith, refl, nothing _ _ _ _)
-
--- a block, when its length is known
-module _ (c : tie.After-block Inv-loop μ-loop) where
-  abbrev start : tie.Start Inv-loop μ-loop
-  start = c .before .before .before .before
-
-  abbrev at : ℕ
-  at = c .before .before .before .loop .at
-
-  abbrev n : ℕ
-  n = c .before .fewer .result
-
-  inside : at + n ≤ length (start .args .weights .now)
-  inside = omega (arith, c .before .fewer .ensures, c .before .before .before .loop .inv .0)
-
-  few : n ≤ 32
-  few = omega (arith, c .before .fewer .ensures)
-
-  fillable : Fillable (start .args .design) (start .args .setting) (start .args .weights .now) (start .args .frame .now) (c .before .before .before .loop .block) at n
-  fillable =
-      record {
-        inside =
-            record {
-              weights = inside;
-              frame = omega (arith, inside, start .pre .lengths);
-              room = omega (arith, few, c .before .before .before .loop .inv .1);
-            };
-        few = few;
-        kept = start .pre .kept;
-      }
-
-fill-requires : tie.Need-fill-requires Inv-loop μ-loop
-fill-requires c κs = fillable c
-
--- a block that has been filled
-module _ (c : tie.After-fill Inv-loop μ-loop) where
-  abbrev here : tie.After-block Inv-loop μ-loop
-  here = c .before
-
-  abbrev residue-of : ℕ → ℤ
-  residue-of = ofPair (residue (designOf (start here .args .design) (start here .args .setting))) (start here .args .weights .now) (start here .args .frame .now)
-
-  block-long : length (c .fill .last .1 .1 .1 .1 .1 .1 .0) ≡ 32
-  block-long = c .fill .kept .1 .1 .1 .1 .1 .1 .0 ∙ here .before .before .before .loop .inv .1
-
-  addable : Addable residue-of (here .before .before .before .loop .sums) (start here .args .weights .now) (start here .args .frame .now) (c .fill .last .1 .1 .1 .1 .1 .1 .0)
-      (start here .args .residues .now) (here .before .before .before .loop .residues) (at here) (n here)
-  addable =
-      record {
-        reached = here .before .before .before .loop .inv .2;
-        inside =
-            record {
-              weights = inside here;
-              frame = omega (arith, inside here, start here .pre .lengths);
-              room = omega (arith, few here, block-long);
-            };
-        pairs = omega (arith, inside here, start here .pre .pairs);
-        room = omega (arith, inside here, start here .pre .places);
-        filled = c .fill .ensures;
-      }
-
-add-requires : tie.Need-add-requires Inv-loop μ-loop
-add-requires c κs = (_, (_, addable (c .before .before .before)))
-
-loop-less : tie.Need-loop-less Inv-loop μ-loop
-loop-less c =
-    let block = c .before .before .before .before .before .before in
-    omega (arith, inside block, block .before .fewer .ensures, block .before .before .loop-test .taken)
-
-loop-again : tie.Need-loop-again Inv-loop μ-loop
-loop-again c =
-    let filled = c .before .before .before .before .before in
-    (inside (filled .before), block-long filled, c .before .add .ensures _ _ (addable filled))
-
--- the whole row, when the loop has ended
-module _ (c : tie.After-loop Inv-loop μ-loop) where
-  abbrev entry : tie.Start Inv-loop μ-loop
-  entry = c .before .before
-
-  all : Reached (ofPair (residue (designOf (entry .args .design) (entry .args .setting))) (entry .args .weights .now) (entry .args .frame .now)) (entry .args .weights .now) (entry .args .frame .now)
-      (entry .args .residues .now) (c .before .loop .residues) (length (entry .args .weights .now)) (c .before .loop .sums)
-  all = let end : length (entry .args .weights .now) ≡ c .before .loop .at = omega (arith, c .before .loop .inv .0, c .loop-test .left) in rw end (c .before .loop .inv .2)
-
-report-of-requires : tie.Need-report-of-requires Inv-loop μ-loop
-report-of-requires c κs = roomy (all c) (entry c .pre .pairs)
-
-returns : tie.Need-returns Inv-loop μ-loop
-returns c =
-    let b = c .before in
-    let start = entry b in
+summed : (c : tie.Start) {after : List ℤ} {s : Sums} {r : RowReport} → let a = c .args in
+    Complete (designOf (a .design) (a .setting)) (a .weights .now) (a .frame .now) (a .residues .now) after s → reportOf r ≡ reportBy s
+    → Summed (a .design) (a .setting) (a .weights .now) (a .frame .now) (a .residues .now) after r
+summed c all is =
     record {
-      is = c .report-of .ensures ∙ whole-report _ _ _ _ _ _ (start .pre .lengths) (start .pre .places) (all b);
-      written = whole-residues _ _ _ _ _ _ (start .pre .lengths) (start .pre .places) (all b);
-      fits = all b .fits;
+      is = is ∙ whole-report _ _ _ _ _ _ (c .pre .lengths) (c .pre .places) all;
+      written = whole-residues _ _ _ _ _ _ (c .pre .lengths) (c .pre .places) all;
+      fits = all .fits;
     }
+
+returns : tie.Need-returns
+returns c =
+    let done = c .before .before in
+    summed (done .before .before .before) (done .one-by-one .ensures) (c .report-of .ensures)
+
+returns-2 : tie.Need-returns-2
+returns-2 c =
+    let done = c .before .before in
+    summed (done .before .before .before) (done .by-blocks .ensures) (c .report-of2 .ensures)
 
 pub accumulate-spec : {M : Type 1} → statement M
 accumulate-spec =
     tie.close
     (tie.spec
-    Inv-loop
-    μ-loop
-    loop-holds
-    (λ c. search needs)
     (λ c κs. search needs)
+    (λ c κs. roomy (c .before .one-by-one .ensures) (c .before .before .before .before .pre .pairs))
     (λ c. search needs)
-    fill-requires
+    returns
+    (λ c κs. search needs)
+    (λ c κs. roomy (c .before .by-blocks .ensures) (c .before .before .before .before .pre .pairs))
     (λ c. search needs)
-    add-requires
-    (λ c. search needs)
-    loop-less
-    loop-again
-    report-of-requires
-    (λ c. all (c .before) .places .size)
-    returns)
+    returns-2)

@@ -11,7 +11,8 @@ use lib.ListN.{getD}
 use lib.Signed.{natAbs-le}
 use mir.Syntax.{w16, w32, w64}
 use mir.Val.{SFits, toZ, ofZ}
-use mir.Facts.{toZ-ofZ, sfits-widen}
+use mir.Facts.{toZ-ofZ}
+use Rattle.pairs.proofs.Integers.{widened, widens}
 use Rattle.blocks.specs.Residues.{ofPair}
 use Rattle.rows.specs.Totals.{Addable, Reached, withPair}
 use Rattle.rows.proofs.Turn.{roomy, turn}
@@ -46,7 +47,7 @@ module _ (c : tie.After-residue Inv-loop μ-loop) where
   r-fits = record { sfits = c .residue .given }
 
   r-is : toZ w64 (ofZ w64 (toZ w32 (ofZ w32 r))) ≡ r
-  r-is = rw (toZ-ofZ r-fits) (toZ-ofZ (sfits-widen tt r-fits))
+  r-is = widened w64 tt r-fits
 
   w-fits : SFits w16 (getD (start .args .weights .now) i (pos 0))
   w-fits = record { sfits = c .before .before .w .given }
@@ -112,7 +113,7 @@ add-spec =
     (λ c. search needs)
     (λ c. search needs)
     (λ c. search needs)
-    (λ c. rw (toZ-ofZ (r-fits c)) (sfits-widen tt (r-fits c)))
+    (λ c. widens tt (r-fits c))
     with-pair-requires
     (λ c. search needs)
     (λ c. search needs)

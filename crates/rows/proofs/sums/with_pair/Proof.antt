@@ -6,10 +6,10 @@ use native.Mathlib.Omega.{arith}
 use lib.IntN.{ℤ, natAbs, _+ℤ_, _*ℤ_}
 use mir.Syntax.{w32, w64}
 use mir.Val.{SFits, toZ, ofZ}
-use mir.Facts.{toZ-ofZ, sfits-widen}
+use mir.Facts.{toZ-ofZ}
 use Rattle.designs.specs.Rows.{nonzero}
 use Rattle.designs.proofs.Sizes.{size-add}
-use Rattle.pairs.proofs.Integers.{true-size}
+use Rattle.pairs.proofs.Integers.{true-size, widened, widens}
 use Rattle.signs.proofs.Integers.{fits-as, read-as, sized}
 use Rattle.rows.specs.declared.sums.Sums.{Sums}
 use Rattle.rows.proofs.Turn.{counts-once}
@@ -42,7 +42,7 @@ module _ (c : tie.After-true-product) where
   narrow = record { sfits = c .true-product .ok }
 
   wide : toZ w64 (ofZ w64 (toZ w32 (ofZ w32 (c .true-product .result)))) ≡ z
-  wide = rw (toZ-ofZ narrow) (toZ-ofZ (sfits-widen tt narrow) ∙ truth)
+  wide = widened w64 tt narrow ∙ truth
 
   abbrev sums : Sums
   sums = start .args .sums
@@ -82,7 +82,7 @@ with-pair-spec =
     tie.close
     (tie.spec
     (λ c κs. search needs)
-    (λ c. rw (toZ-ofZ (narrow c)) (sfits-widen tt (narrow c)))
+    (λ c. widens tt (narrow c))
     (λ c. fits-as (true-is (c .before .before)) (true-fits (c .before .before)))
     (λ c. fits-as (error-is (c .before .before .before .before)) (error-fits (c .before .before .before .before)))
     (λ c κs. search needs)
