@@ -1,37 +1,43 @@
--- Design 3 on a block: each place of it holds what the stages leave of one number of a slice, of which the first n are taken; what they
--- leave of both numbers of a pair, multiplied, is its residue. Assumes nothing.
-use mathlib.Core.Path.{_≡_, sym, ap, ap₂, _∙_, subst}
-use Prim.Native.Nat.{ℕ, min, _≤_, _<_}
-use native.Mathlib.Nat.{min-eq-left}
+-- Design 3 on a block: what the stages leave of a weight, and n places behind it of its number of the frame. Both multiplied are the
+-- residue of the pair. Assumes nothing.
+use mathlib.Core.Path.{_≡_, sym, ap, ap₂, _∙_}
+use Prim.Native.Nat.{ℕ, _+_, _<_}
+use native.Mathlib.Omega.{arith}
 use mathlib.Core.List.{List}
-use lib.IntN.{ℤ, pos, _*ℤ_}
-use lib.ListN.{length, take}
-use lib.Seq.{getD-take, length-take-le}
+use lib.IntN.{ℤ, _*ℤ_}
+use lib.ListN.{length}
 use Rattle.designs.specs.Designs.{staged}
-use Rattle.designs.specs.Signs.{leftℤ}
+use Rattle.designs.specs.Signs.{leftℤ, residue}
+use Rattle.designs.proofs.Cases.{either-lt}
 use Rattle.designs.proofs.SignedLeft.{staged-left}
-use Rattle.patterns.specs.Blocks.{Done, Left, place, Small}
-use Rattle.blocks.specs.Residues.{Residues}
+use Rattle.patterns.specs.Blocks.{Done, joined, Left, pairsLeft, place}
+use Rattle.patterns.proofs.Blocks.{behind, in-first, in-second}
+use Rattle.blocks.specs.Residues.{FilledByStages, ofPair}
 
-module _ (s : ℕ) (ws : List ℤ) (n : ℕ) {before after : List ℤ} (inside : n ≤ length ws) (room : n ≤ length before) (left : Left s (take n ws) before after) where
-  count : min (length (take n ws)) (length before) ≡ n
-  count = ap (λ (k : ℕ). min k (length before)) (length-take-le n ws inside) ∙ min-eq-left room
+module _ (s : ℕ) (ws fs : List ℤ) (n : ℕ) {before block after : List ℤ} (left : Left s ws fs n before block)
+    (d : Done (λ k. place block k *ℤ place block (n + k)) n block after) where
+  weight : (k : ℕ) → k < n → place block k ≡ leftℤ s (place ws k)
+  weight k h = left .done .first k (omega arith) ∙ ap (leftℤ s) (in-first n (place ws) (place fs) k h)
 
-  done : Done (λ k. leftℤ s (place (take n ws) k)) n before after
-  done = subst (λ (m : ℕ). Done (λ k. leftℤ s (place (take n ws) k)) m before after) count (left .done)
+  number : (k : ℕ) → k < n → place block (n + k) ≡ leftℤ s (place fs k)
+  number k h = left .done .first (n + k) (omega arith) ∙ ap (leftℤ s) (behind n (place ws) (place fs) k)
 
-  at : (k : ℕ) → k < n → place after k ≡ leftℤ s (place ws k)
-  at k h = done .first k h ∙ ap (leftℤ s) (getD-take n ws k (pos 0) h)
+  abbrev residues : ℕ → ℤ
+  residues = ofPair (residue (staged s)) ws fs
 
-  pub left-small : Small n after
-  left-small = subst (λ (m : ℕ). Small m after) count (left .small)
+  abbrev of-frame : ℕ → ℤ
+  of-frame k = leftℤ s (place fs k)
 
-pub multiplied : (s : ℕ) (ws fs : List ℤ) (n : ℕ) {before block unset other after : List ℤ} → n ≤ length ws → n ≤ length fs → n ≤ length before
-    → n ≤ length unset → Left s (take n ws) before block → Left s (take n fs) unset other → Done (λ k. place block k *ℤ place other k) n block after
-    → Residues (staged s) ws fs n before after
-multiplied s ws fs n hw hf room also lw lf d =
-    record {
-      size = d .size ∙ lw .done .size;
-      first = λ k h. d .first k h ∙ ap₂ _*ℤ_ (at s ws n hw room lw k h) (at s fs n hf also lf k h) ∙ sym (staged-left s (place ws k) (place fs k));
-      later = λ k h. d .later k h ∙ done s ws n hw room lw .later k h;
-    }
+  multiplied : Done (joined n residues of-frame) (n + n) before after
+  multiplied =
+      record {
+        size = d .size ∙ left .done .size;
+        first =
+            λ k h. either-lt k n
+            (λ l. d .first k l ∙ ap₂ _*ℤ_ (weight k l) (number k l) ∙ sym (staged-left s (place ws k) (place fs k)) ∙ sym (in-first n residues of-frame k l))
+            (λ l. d .later k l ∙ left .done .first k h ∙ ap (leftℤ s) (in-second n (place ws) (place fs) k l) ∙ sym (in-second n residues of-frame k l));
+        later = λ k h. d .later k (omega arith) ∙ left .done .later k h;
+      }
+
+  pub filled : n ≡ pairsLeft (length ws) (length fs) (length before) → FilledByStages s ws fs before after
+  filled e = rw (sym e) multiplied

@@ -1,19 +1,19 @@
 -- The residues of the first pairs of two slices, in the first places of a block. Definitions only.
 use mathlib.Core.List.{List}
-use Prim.Native.Nat.{ℕ, min}
+use Prim.Native.Nat.{ℕ, min, _+_}
 use lib.IntN.{ℤ}
 use lib.ListN.{length}
-use Rattle.designs.specs.Designs.{Design}
-use Rattle.designs.specs.Signs.{residue}
-use Rattle.patterns.specs.Blocks.{Done, place}
+use Rattle.designs.specs.Designs.{Design, staged}
+use Rattle.designs.specs.Signs.{leftℤ, residue}
+use Rattle.patterns.specs.Blocks.{Done, joined, pairsLeft, place}
 
 -- q of pair k of two slices
 abbrev pub ofPair : {X : Type 0} → (ℤ → ℤ → X) → List ℤ → List ℤ → ℕ → X
 ofPair q ws fs k = q (place ws k) (place fs k)
 
--- how many pairs are taken of two slices of these lengths, for a block of so many places: no more than 32
+-- how many pairs are taken of two slices of these lengths, for a block of so many places
 abbrev pub pairsOf : ℕ → ℕ → ℕ → ℕ
-pairsOf weights frame places = min (min weights frame) (min places 32)
+pairsOf weights frame places = min (min weights frame) places
 
 -- the first n places hold the residues of the first n pairs, and the later ones what they held before
 abbrev pub Residues : Design → List ℤ → List ℤ → ℕ → List ℤ → List ℤ → Type 0
@@ -22,3 +22,9 @@ Residues D ws fs n before after = Done (ofPair (residue D) ws fs) n before after
 -- so for all pairs that are taken
 abbrev pub Filled : Design → List ℤ → List ℤ → List ℤ → List ℤ → Type 0
 Filled D ws fs before after = Residues D ws fs (pairsOf (length ws) (length fs) (length before)) before after
+
+-- by stages, with what they leave of the frame behind the residues
+abbrev pub FilledByStages : ℕ → List ℤ → List ℤ → List ℤ → List ℤ → Type 0
+FilledByStages s ws fs before after =
+    let n = pairsLeft (length ws) (length fs) (length before) in
+    Done (joined n (ofPair (residue (staged s)) ws fs) (λ k. leftℤ s (place fs k))) (n + n) before after

@@ -1,9 +1,10 @@
 -- A loop that fills a block place by place: one turn more is one place more. Stages keep the numbers small, and one stage after k
 -- is k + 1. Each law goes place by place. Assumes nothing.
-use mathlib.Core.Path.{_≡_, refl, ap, _∙_, subst}
+use mathlib.Core.Path.{_≡_, refl, sym, ap, _∙_, subst}
+use borrow.Author.Tests.{le-ltb, lt-ltb}
 use mathlib.Core.List.{List}
-use Prim.Native.Nat.{ℕ, _+_, _^_, _≤_, _<_}
-use native.Mathlib.Nat.{le-antisymm}
+use Prim.Native.Nat.{ℕ, _+_, _-_, _^_, _≤_, _<_}
+use native.Mathlib.Nat.{add-sub-cancel-left, le-antisymm, sub-zero}
 use native.Mathlib.Numerals.{add-one}
 use native.Mathlib.Omega.{arith}
 use lib.IntN.{ℤ, pos, natAbs}
@@ -12,7 +13,7 @@ use lib.Seq.{getD-set-other, getD-set-same}
 use Rattle.designs.proofs.Cases.{either-lt}
 use Rattle.designs.proofs.SignedLeft.{left-next, left-none, rest-size}
 use Rattle.designs.specs.Signs.{leftℤ, restℤ}
-use Rattle.patterns.specs.Blocks.{Done, place, Small}
+use Rattle.patterns.specs.Blocks.{Copied, Done, joined, place, Small}
 
 pub none-done : (g : ℕ → ℤ) (block : List ℤ) → Done g 0 block block
 none-done g block = record { size = refl; first = λ j h. absurd (omega arith); later = λ j h. refl }
@@ -46,18 +47,52 @@ done-small d l f = record { room = omega (arith, d .size); at = λ j h. rw (d .f
 pub rest-small : (n : ℕ) (l : List ℤ) → Small n l → (j : ℕ) → j < n → natAbs (restℤ (place l j)) ≤ 2 ^ 15
 rest-small n l s j h = omega (arith, rest-size (place l j), s .at j h)
 
--- what the stages leave of numbers
-module _ (numbers : List ℤ) where
-  abbrev pub After : ℕ → ℕ → List ℤ → List ℤ → Type 0
-  After k n before after = Done (λ j. leftℤ k (place numbers j)) n before after
+-- two runs of places, one behind the other
+module _ (n : ℕ) (f g : ℕ → ℤ) (i : ℕ) where
+  pub in-first : i < n → joined n f g i ≡ f i
+  in-first h = rw (lt-ltb i n h) refl
 
-  pub no-stage : {n : ℕ} {before after : List ℤ} → Done (place numbers) n before after → After 0 n after after
-  no-stage d = record { size = refl; first = λ j h. rw (left-none (place numbers j)) (d .first j h); later = λ j h. refl }
+  pub in-second : n ≤ i → joined n f g i ≡ g (i - n)
+  in-second h = rw (le-ltb i n h) refl
+
+pub behind : (n : ℕ) (f g : ℕ → ℤ) (k : ℕ) → joined n f g (n + k) ≡ g k
+behind n f g k = in-second n f g (n + k) (omega arith) ∙ ap g (add-sub-cancel-left n k)
+
+-- what stands before a place is done, before anything is copied there
+pub kept-done : (from : ℕ) (g : ℕ → ℤ) (block : List ℤ) → Done (joined from (place block) g) from block block
+kept-done from g block = record { size = refl; first = λ j h. sym (in-first from (place block) g j h); later = λ j h. refl }
+
+-- two copies, one behind the other
+pub both-copied : (n : ℕ) (ws fs : List ℤ) {before block after : List ℤ} → Copied n ws 0 before block → Copied n fs n block after
+    → Done (joined n (place ws) (place fs)) (n + n) before after
+both-copied n ws fs {before} {block} c d =
+    record {
+      size = d .done .size ∙ c .done .size;
+      first =
+          λ j h. either-lt j n
+          (λ l. d .done .first j h ∙ in-first n (place block) (place fs) j l ∙ c .done .first j (omega arith) ∙ in-second 0 (place before) (place ws) j (omega arith) ∙ ap (place ws) (sub-zero j)
+          ∙ sym (in-first n (place ws) (place fs) j l))
+          (λ l. d .done .first j h ∙ in-second n (place block) (place fs) j l ∙ sym (in-second n (place ws) (place fs) j l));
+      later = λ j h. d .done .later j h ∙ c .done .later j (omega arith);
+    }
+
+pub both-small : (n : ℕ) (ws fs : List ℤ) {before block after : List ℤ} → Copied n ws 0 before block → Copied n fs n block after
+    → (j : ℕ) → j < n + n → natAbs (joined n (place ws) (place fs) j) ≤ 2 ^ 15
+both-small n ws fs c d j h =
+    either-lt j n (λ l. rw (in-first n (place ws) (place fs) j l) (c .small j l)) (λ l. rw (in-second n (place ws) (place fs) j l) (d .small (j - n) (omega arith)))
+
+-- what the stages leave of numbers
+module _ (g : ℕ → ℤ) where
+  abbrev pub After : ℕ → ℕ → List ℤ → List ℤ → Type 0
+  After k n before after = Done (λ j. leftℤ k (g j)) n before after
+
+  pub no-stage : {n : ℕ} {before after : List ℤ} → Done g n before after → After 0 n after after
+  no-stage d = record { size = refl; first = λ j h. rw (left-none (g j)) (d .first j h); later = λ j h. refl }
 
   pub one-more : (k : ℕ) {n : ℕ} {before block after : List ℤ} → After k n before block → Done (λ j. restℤ (place block j)) n block after → After (k + 1) n before after
   one-more k d e =
       record {
         size = e .size ∙ d .size;
-        first = λ j h. rw (add-one k) (e .first j h ∙ ap restℤ (d .first j h) ∙ left-next k (place numbers j));
+        first = λ j h. rw (add-one k) (e .first j h ∙ ap restℤ (d .first j h) ∙ left-next k (g j));
         later = λ j h. e .later j h ∙ d .later j h;
       }

@@ -1,7 +1,9 @@
 -- Blocks of numbers under the stages of design 3. A place past the end of a list counts as 0. Definitions only.
 use mathlib.Core.Path.{_≡_}
+use mathlib.Core.Bool.{cond}
 use mathlib.Core.List.{List}
-use Prim.Native.Nat.{ℕ, min, _^_, _≤_, _<_}
+use Prim.Native.Nat.{ℕ, min, _+_, _-_, _/_, _^_, _≤_, _<_}
+use lib.Dec.{ltb}
 use lib.IntN.{ℤ, pos, natAbs}
 use lib.ListN.{getD, length}
 use Rattle.designs.specs.Signs.{leftℤ}
@@ -20,17 +22,25 @@ pub record Small (n : ℕ) (l : List ℤ) : Type 0 where
   pub room : n ≤ length l
   pub at : (i : ℕ) → i < n → natAbs (place l i) ≤ 2 ^ 15
 
--- There are n numbers, and places for them.
-pub record Room (n : ℕ) (numbers block : List ℤ) : Type 0 where
+-- f below n, and from n on g, counted from 0 again
+abbrev pub joined : ℕ → (ℕ → ℤ) → (ℕ → ℤ) → ℕ → ℤ
+joined n f g i = cond (ltb i n) (f i) (g (i - n))
+
+-- There are n numbers, and places for them from `from` on.
+pub record Room (n : ℕ) (numbers : List ℤ) (from : ℕ) (block : List ℤ) : Type 0 where
   pub enough : n ≤ length numbers
-  pub places : n ≤ length block
+  pub places : from + n ≤ length block
 
--- They are copied, and small.
-pub record Copied (n : ℕ) (numbers before after : List ℤ) : Type 0 where
-  pub done : Done (place numbers) n before after
-  pub small : Small n after
+-- They are copied behind what stands before, and small.
+pub record Copied (n : ℕ) (numbers : List ℤ) (from : ℕ) (before after : List ℤ) : Type 0 where
+  pub done : Done (joined from (place before) (place numbers)) (from + n) before after
+  pub small : (i : ℕ) → i < n → natAbs (place numbers i) ≤ 2 ^ 15
 
--- What the stages leave of the first numbers, as many as there are places for them, is in these places, and small.
-pub record Left (stages : ℕ) (numbers before after : List ℤ) : Type 0 where
-  pub done : Done (λ i. leftℤ stages (place numbers i)) (min (length numbers) (length before)) before after
-  pub small : Small (min (length numbers) (length before)) after
+-- how many pairs the stages take of two slices of these lengths, where each pair needs two of so many places
+abbrev pub pairsLeft : ℕ → ℕ → ℕ → ℕ
+pairsLeft weights frame places = min (min weights frame) (places / 2)
+
+-- What the stages leave of n weights, and behind them of n numbers of the frame, is in the first places, and small.
+pub record Left (stages : ℕ) (ws fs : List ℤ) (n : ℕ) (before after : List ℤ) : Type 0 where
+  pub done : Done (λ i. leftℤ stages (joined n (place ws) (place fs) i)) (n + n) before after
+  pub small : Small (n + n) after

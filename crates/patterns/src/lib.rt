@@ -20,7 +20,7 @@ use crate::sizes::size;
 use crate::truncation::clamp;
 use crate::truncation::kept_pattern;
 use crate::truncation::with_carry;
-pub use stages::stages_left;
+pub use stages::pairs_left;
 
 // The residue of design 1.
 pub fn mitchell_residue(w: i16, x: i16) -> i32

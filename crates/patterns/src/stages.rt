@@ -3,8 +3,9 @@
 ghost use mathlib.Core.Path.{_≡_};
 ghost use Prim.Native.Nat.{_^_, _≤_};
 ghost use lib.IntN.{natAbs};
+ghost use lib.ListN.{length};
 ghost use Rattle.designs.specs.Signs.{restℤ};
-ghost use Rattle.patterns.specs.Blocks.{Copied, Done, Left, place, Room, Small};
+ghost use Rattle.patterns.specs.Blocks.{Copied, Done, Left, pairsLeft, place, Room, Small};
 use crate::powers::less_power;
 
 // What one stage leaves of x, with its sign.
@@ -27,28 +28,32 @@ fn clear(n: usize, block: &mut [i32])
     }
 }
 
-// The first n numbers, to the front of a block.
-fn copy(n: usize, numbers: &[i16], block: &mut [i32])
-    requires { ⌜ Room n (now numbers) (now block) ⌝ }
-    ensures { λ r. ⌜ Copied n (now (numbers .entry)) (now (block .entry)) (now (block .exit)) ⌝ }
+// The first n numbers, to the places of a block from `from` on.
+fn copy(n: usize, numbers: &[i16], from: usize, block: &mut [i32])
+    requires { ⌜ Room n (now numbers) from (now block) ⌝ }
+    ensures { λ r. ⌜ Copied n (now (numbers .entry)) from (now (block .entry)) (now (block .exit)) ⌝ }
 {
     let mut i = 0;
     while i < n {
         let z = numbers[i];
-        block[i] = z as i32;
+        block[from + i] = z as i32;
         i += 1;
     }
 }
 
-// What the stages leave of the first numbers, as many as there are places for them, each with its sign. Later places keep their contents.
-pub fn stages_left(stages: u32, numbers: &[i16], left: &mut [i32])
-    ensures { λ r. ⌜ Left stages (now (numbers .entry)) (now (left .entry)) (now (left .exit)) ⌝ }
+// What the stages leave of the numbers of some pairs, each with its sign: of the weights, and behind them of the frame, so that a stage
+// goes over both at once. The pairs are as many as both slices have numbers, and at most half as many as there are places; their number
+// is handed back. Later places keep their contents.
+pub fn pairs_left(stages: u32, weights: &[i16], frame: &[i16], left: &mut [i32]) -> usize
+    ensures { λ r. ⌜ (r ≡ pairsLeft (length (now (weights .entry))) (length (now (frame .entry))) (length (now (left .entry)))) × Left stages (now (weights .entry)) (now (frame .entry)) r (now (left .entry)) (now (left .exit)) ⌝ }
 {
-    let n = pairs::fewer(numbers.len(), left.len());
-    copy(n, numbers, left);
+    let n = pairs::fewer(pairs::fewer(weights.len(), frame.len()), left.len() / 2);
+    copy(n, weights, 0, left);
+    copy(n, frame, n, left);
     let mut k = 0;
     while k < stages {
-        clear(n, left);
+        clear(n + n, left);
         k += 1;
     }
+    n
 }

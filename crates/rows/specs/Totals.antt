@@ -23,19 +23,18 @@ unfoldable pub count : (ℕ → ℕ) → ℕ → ℕ
 count f zero = 0
 count f (suc n) = count f n + f n
 
--- a block of n pairs of a row, those from `from` on: they are pairs of it, and the block has places for them
-pub record Inside (ws fs block : List ℤ) (from n : ℕ) : Type 0 where
+-- n pairs from `from` on are pairs of a row
+pub record Inside (ws fs : List ℤ) (from n : ℕ) : Type 0 where
   pub weights : from + n ≤ length ws
   pub frame : from + n ≤ length fs
-  pub room : n ≤ length block
 
--- such a block, which a design that has been judged can fill
+-- their residues by a design that has been judged can fill a block, with two places for a pair
 pub record Fillable (design setting : ℕ) (ws fs block : List ℤ) (from n : ℕ) : Type 0 where
-  pub inside : Inside ws fs block from n
-  pub few : n ≤ 32
+  pub inside : Inside ws fs from n
+  pub room : n + n ≤ length block
   pub kept : Keeps (λ t. clamped t ≡ t) (designOf design setting)
 
--- its first n places hold what z gives for these pairs
+-- the first n places of a block hold what z gives for these pairs
 abbrev pub Holds : (ℕ → ℤ) → ℕ → ℕ → List ℤ → Type 0
 Holds z from n block = (k : ℕ) → k < n → place block k ≡ z (from + k)
 
@@ -92,7 +91,8 @@ Complete D ws fs before after = Reached (ofPair (residue D) ws fs) ws fs before 
 -- what adding a block of n pairs asks, whatever the residues z are
 pub record Addable (z : ℕ → ℤ) (s : Sums) (ws fs block before places : List ℤ) (from n : ℕ) : Type 0 where
   pub reached : Reached z ws fs before places from s
-  pub inside : Inside ws fs block from n
+  pub inside : Inside ws fs from n
   pub pairs : from + n ≤ 4096
   pub room : from + n ≤ length before
+  pub in-block : n ≤ length block
   pub filled : Holds z from n block

@@ -7,8 +7,6 @@ ghost use Rattle.designs.specs.Products.{designOf};
 ghost use Rattle.rows.specs.Answers.{Ready, reportOf, Summed};
 ghost use Rattle.rows.specs.Totals.{Addable, Complete, noSums, Reached, reportBy, Roomy, withPair};
 use crate::RowReport;
-use blocks::BLOCK;
-use blocks::UNSET;
 
 // The sums of some pairs. Their number has 32 bits, so that the compiler counts four pairs at a time.
 struct Sums {
@@ -20,6 +18,15 @@ struct Sums {
 
 // Fewer pairs than these take less time one by one than by a block.
 const FEW: usize = 4;
+
+// The most pairs of a block, and its places: design 3 needs two for a pair.
+const BLOCK: usize = 32;
+
+const PLACES: usize = 64;
+
+// What a place of a block holds before it is filled. The bytes of this number differ: equal ones, as those of 0 are, the compiler would set
+// by a call of a C function, which the archive has not.
+const UNSET: i32 = 258;
 
 // The report of a row that can be scored; its residues go to their places.
 pub(crate) fn accumulate(
@@ -75,7 +82,7 @@ fn by_blocks(
     ensures { λ r. ⌜ Complete (designOf design setting) (now (weights .entry)) (now (frame .entry)) (now (residues .entry)) (now (residues .exit)) r ⌝ }
 {
     let mut sums = no_sums();
-    let mut block = [UNSET; BLOCK];
+    let mut block = [UNSET; PLACES];
     let mut at = 0;
     while at < weights.len() {
         let count = pairs::fewer(weights.len() - at, BLOCK);

@@ -3,21 +3,36 @@ use borrow.Author.Needs.{needs}
 use mathlib.Core.Path.{_≡_}
 use mathlib.Core.List.{List}
 use lib.IntN.{ℤ}
-use Rattle.designs.specs.Designs.{Design}
+use Rattle.designs.specs.Designs.{Design, staged}
 use Rattle.designs.specs.Products.{designOf}
 use Rattle.designs.specs.Signs.{residue}
-use Rattle.blocks.specs.Residues.{Filled, ofPair}
+use Rattle.blocks.specs.Residues.{Filled, FilledByStages, ofPair}
 use Rattle.rows.specs.Totals.{Holds}
 use Rattle.rows.proofs.ByNumber.{first, second, third, fourth}
-use Rattle.rows.proofs.PartOfRow.{holds, part}
+use Rattle.rows.proofs.PartOfRow.{holds, holds-by-stages, part}
 use Rattle.rows.proofs.choice.fill.Statement.{statement}
 use Rattle.rows.proofs.choice.fill.Tie as tie
 
--- a block that has been filled, by a design that is the one of its number
-abbrev filled : (c : tie.After-x) {D : Design} {after : List ℤ} → let s = c .before .before in D ≡ designOf (s .args .design) (s .args .setting)
-    → Filled D (part (s .args .weights .now) (s .args .from) (s .args .count)) (part (s .args .frame .now) (s .args .from) (s .args .count)) (s .args .block .now) after
-    → Holds (ofPair (residue (designOf (s .args .design) (s .args .setting))) (s .args .weights .now) (s .args .frame .now)) (s .args .from) (s .args .count) after
-filled c e by = let s = c .before .before in holds e (s .args .weights .now) (s .args .frame .now) (s .args .from) (s .args .count) (s .pre .inside) (s .pre .few) by
+-- a block that has been filled for the part of the row, by a design that is the one of its number
+module _ (c : tie.After-x) where
+  abbrev s : tie.Start
+  s = c .before .before
+
+  abbrev Held : List ℤ → Type 0
+  Held = Holds (ofPair (residue (designOf (s .args .design) (s .args .setting))) (s .args .weights .now) (s .args .frame .now)) (s .args .from) (s .args .count)
+
+  abbrev weights : List ℤ
+  weights = part (s .args .weights .now) (s .args .from) (s .args .count)
+
+  abbrev frame : List ℤ
+  frame = part (s .args .frame .now) (s .args .from) (s .args .count)
+
+  filled : {D : Design} {after : List ℤ} → D ≡ designOf (s .args .design) (s .args .setting) → Filled D weights frame (s .args .block .now) after → Held after
+  filled e = holds (s .args .weights .now) (s .args .frame .now) (s .args .from) (s .args .count) (s .pre .inside) e (s .pre .room)
+
+  by-stages : {after : List ℤ} → staged (s .args .setting) ≡ designOf (s .args .design) (s .args .setting)
+      → FilledByStages (s .args .setting) weights frame (s .args .block .now) after → Held after
+  by-stages e = holds-by-stages (s .args .weights .now) (s .args .frame .now) (s .args .from) (s .args .count) (s .pre .inside) (s .args .setting) e (s .pre .room)
 
 returns : tie.Need-returns
 returns c =
@@ -32,13 +47,13 @@ returns-2 c =
 returns-3 : tie.Need-returns-3
 returns-3 c =
     let test = c .before .before .before in
-    filled (test .before .before .before) (third _ _ (test .before .before .if1 .left) (test .before .if2 .left) (test .if3 .taken)) (c .before .staged-residues .ensures)
+    by-stages (test .before .before .before) (third _ _ (test .before .before .if1 .left) (test .before .if2 .left) (test .if3 .taken)) (c .before .staged-residues .ensures)
 
 returns-4 : tie.Need-returns-4
 returns-4 c =
     let test = c .before .before .before in
-    let begun = test .before .before .before in
-    filled begun (fourth _ _ (test .before .before .if1 .left) (test .before .if2 .left) (test .if3 .left) (begun .before .before .pre .kept)) (c .before .truncated-residues .ensures)
+    let x = test .before .before .before in
+    filled x (fourth _ _ (test .before .before .if1 .left) (test .before .if2 .left) (test .if3 .left) (s x .pre .kept)) (c .before .truncated-residues .ensures)
 
 pub fill-spec : {M : Type 1} → statement M
 fill-spec =

@@ -9,14 +9,14 @@ use lib.ListN.{length}
 use Rattle.designs.specs.Products.{designOf}
 use Rattle.designs.specs.Signs.{residue}
 use Rattle.blocks.specs.Residues.{ofPair}
-use Rattle.rows.specs.Totals.{Addable, Fillable, Reached}
+use Rattle.rows.specs.Totals.{Addable, Fillable, Inside, Reached}
 use Rattle.rows.proofs.Turn.{nothing}
 use Rattle.rows.proofs.sums.by_blocks.Statement.{statement}
 use Rattle.rows.proofs.sums.by_blocks.Tie as tie
 
 abbrev Inv-loop : tie.InvT-loop
 Inv-loop design setting weights frame residues₀ sums₀ block₀ at₀ residues sums block at =
-    (at ≤ length weights) × (length block ≡ 32) × Reached (ofPair (residue (designOf design setting)) weights frame) weights frame residues₀ residues at sums
+    (at ≤ length weights) × (length block ≡ 64) × Reached (ofPair (residue (designOf design setting)) weights frame) weights frame residues₀ residues at sums
 
 abbrev μ-loop : tie.MeasureT-loop
 μ-loop design setting weights frame residues₀ sums₀ block₀ at₀ residues sums block at = length weights - at
@@ -38,19 +38,17 @@ module _ (c : tie.After-block Inv-loop μ-loop) where
   inside : at + n ≤ length (start .args .weights .now)
   inside = omega (arith, c .before .fewer .ensures, c .before .before .before .loop .inv .0)
 
+  within : Inside (start .args .weights .now) (start .args .frame .now) at n
+  within = record { weights = inside; frame = omega (arith, inside, start .pre .lengths) }
+
   few : n ≤ 32
   few = omega (arith, c .before .fewer .ensures)
 
   fillable : Fillable (start .args .design) (start .args .setting) (start .args .weights .now) (start .args .frame .now) (c .before .before .before .loop .block) at n
   fillable =
       record {
-        inside =
-            record {
-              weights = inside;
-              frame = omega (arith, inside, start .pre .lengths);
-              room = omega (arith, few, c .before .before .before .loop .inv .1);
-            };
-        few = few;
+        inside = within;
+        room = omega (arith, few, c .before .before .before .loop .inv .1);
         kept = start .pre .kept;
       }
 
@@ -65,7 +63,7 @@ module _ (c : tie.After-fill Inv-loop μ-loop) where
   abbrev residue-of : ℕ → ℤ
   residue-of = ofPair (residue (designOf (start here .args .design) (start here .args .setting))) (start here .args .weights .now) (start here .args .frame .now)
 
-  block-long : length (c .fill .last .1 .1 .1 .1 .1 .1 .0) ≡ 32
+  block-long : length (c .fill .last .1 .1 .1 .1 .1 .1 .0) ≡ 64
   block-long = c .fill .kept .1 .1 .1 .1 .1 .1 .0 ∙ here .before .before .before .loop .inv .1
 
   addable : Addable residue-of (here .before .before .before .loop .sums) (start here .args .weights .now) (start here .args .frame .now) (c .fill .last .1 .1 .1 .1 .1 .1 .0)
@@ -73,14 +71,10 @@ module _ (c : tie.After-fill Inv-loop μ-loop) where
   addable =
       record {
         reached = here .before .before .before .loop .inv .2;
-        inside =
-            record {
-              weights = inside here;
-              frame = omega (arith, inside here, start here .pre .lengths);
-              room = omega (arith, few here, block-long);
-            };
+        inside = within here;
         pairs = omega (arith, inside here, start here .pre .pairs);
         room = omega (arith, inside here, start here .pre .places);
+        in-block = omega (arith, few here, block-long);
         filled = c .fill .ensures;
       }
 
