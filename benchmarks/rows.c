@@ -96,7 +96,7 @@ static void compare_boundaries(void) {
 
 static void check(void) {
     static const char *const data[] = {"uniform", "small", "ones"};
-    static const size_t lengths[] = {0, 1, 2, 63, 64, PAIRS};
+    static const size_t lengths[] = {0, 1, 2, 3, 4, 5, 33, 63, 64, PAIRS};
     for (size_t d = 0; d < sizeof data / sizeof *data; d++)
         for (size_t i = 0; i < sizeof lengths / sizeof *lengths; i++) {
             fill(data[d]);
