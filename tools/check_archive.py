@@ -3,11 +3,11 @@
 
 The chip has no multiplier, so no function that computes a design's product may hold a multiply instruction. Scoring a row, which
 the bench does and the chip does otherwise, multiplies: it forms the true product of each pair, and by designs 2 and 3 the residue as
-the product of what powers leave; the compiler makes two loops of each, for four pairs and for the rest. The writer of decimals
-divides by ten, which the compiler does by a multiply. The archive must need nothing from outside (no undefined symbol) and hold no
-data that a program could write, so that it can go into ROM as it is. Constants are counted: the byte table's 512 bytes, the words of
-a transcript, and the vectors of four equal numbers that rows read. Of the stack below its pointer a function may use the red zone
-alone, as the header says.
+the product of what powers leave; the compiler makes two loops of each, for four pairs and for the rest, and short rows have a third.
+The writer of decimals divides by ten, which the compiler does by a multiply. The archive must need nothing from outside (no undefined
+symbol) and hold no data that a program could write, so that it can go into ROM as it is. Constants are counted: the byte table's 512
+bytes, the words of a transcript, and the vectors of four equal numbers that rows read. Of the stack below its pointer a function may
+use the red zone alone, as the header says.
 
 Usage: python3 tools/check_archive.py ARCHIVE     (tools/archive writes target/libhighvane.a)
 """
@@ -17,9 +17,8 @@ import sys
 
 # every multiply of x86-64: mul, imul, mulx, and the vector ones (pmuludq, vpmulld, mulps, ..)
 MULTIPLY = re.compile(r'v?p?i?mul\w*|v?pmadd\w*|vf[n]?m(?:add|sub)\w*')
-# how many a function may have: a row's true products and residues, of which a vector takes up to three, and the true products of few
-# staged pairs; a decimal's division by ten
-ALLOWED = {'highvane_score_row': 19, 'transcripts::writers::put_number': 1}
+# how many a function may have: a row's true products and residues, of which a vector takes up to three; a decimal's division by ten
+ALLOWED = {'highvane_score_row': 22, 'transcripts::writers::put_number': 1}
 # sections that a program writes, or that run before it; and constants, with how many bytes they may have
 DATA = re.compile(r'\.(data|bss|tdata|tbss|init_array|fini_array)\b')
 CONSTANTS = re.compile(r'\.rodata\b')
