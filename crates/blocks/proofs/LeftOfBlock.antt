@@ -1,7 +1,7 @@
 -- Design 3 on a block: what the stages leave of a weight, and n places behind it of its number of the frame. Both multiplied are the
 -- residue of the pair. Assumes nothing.
 use mathlib.Core.Path.{_≡_, sym, ap, ap₂, _∙_}
-use Prim.Native.Nat.{ℕ, _+_, _<_}
+use Prim.Native.Nat.{ℕ, _+_, _/_, _<_}
 use native.Mathlib.Omega.{arith}
 use mathlib.Core.List.{List}
 use lib.IntN.{ℤ, _*ℤ_}
@@ -10,7 +10,8 @@ use Rattle.designs.specs.Designs.{staged}
 use Rattle.designs.specs.Signs.{leftℤ, residue}
 use Rattle.designs.proofs.Cases.{either-lt}
 use Rattle.designs.proofs.SignedLeft.{staged-left}
-use Rattle.patterns.specs.Blocks.{Done, joined, Left, pairsLeft, place}
+use Rattle.pairs.specs.Lengths.{pairsOf}
+use Rattle.patterns.specs.Blocks.{Done, joined, Left, place}
 use Rattle.patterns.proofs.Blocks.{behind, in-first, in-second}
 use Rattle.blocks.specs.Residues.{FilledByStages, ofPair}
 
@@ -39,5 +40,5 @@ module _ (s : ℕ) (ws fs : List ℤ) (n : ℕ) {before block after : List ℤ} 
         later = λ k h. d .later k (omega arith) ∙ left .done .later k h;
       }
 
-  pub filled : n ≡ pairsLeft (length ws) (length fs) (length before) → FilledByStages s ws fs before after
+  pub filled : n ≡ pairsOf (length ws) (length fs) (length before / 2) → FilledByStages s ws fs before after
   filled e = rw (sym e) multiplied

@@ -1,19 +1,18 @@
 // The residues of a block of pairs, by each design: those of the first pairs of two slices, into the first places of a block. Any slices
 // are taken. The pairs are as many as both have numbers and the block has places; by design 3 a pair needs two places. The other places keep
 // their contents. A block has 32-bit numbers only, so that the compiler takes four pairs at a time.
-ghost use mathlib.Core.Path.{_≡_};
 ghost use Prim.Native.Nat.{_+_};
 ghost use lib.IntN.{_*ℤ_};
 ghost use Rattle.designs.specs.Designs.{mitchell, nearest, truncated};
 ghost use Rattle.patterns.specs.Blocks.{Done, place, Small};
 ghost use Rattle.patterns.specs.Patterns.{clamped};
-ghost use Rattle.blocks.specs.Residues.{Filled, FilledByStages, pairsOf};
+ghost use Rattle.blocks.specs.Residues.{Filled, FilledByStages};
 
 // By design 1, Mitchell's.
 pub fn mitchell_residues(weights: &[i16], frame: &[i16], block: &mut [i32])
     ensures { λ r. ⌜ Filled mitchell (now (weights .entry)) (now (frame .entry)) (now (block .entry)) (now (block .exit)) ⌝ }
 {
-    let n = pairs_of(weights.len(), frame.len(), block.len());
+    let n = pairs::taken(weights.len(), frame.len(), block.len());
     let mut j = 0;
     while j < n {
         let w = weights[j];
@@ -27,7 +26,7 @@ pub fn mitchell_residues(weights: &[i16], frame: &[i16], block: &mut [i32])
 pub fn nearest_residues(weights: &[i16], frame: &[i16], block: &mut [i32])
     ensures { λ r. ⌜ Filled nearest (now (weights .entry)) (now (frame .entry)) (now (block .entry)) (now (block .exit)) ⌝ }
 {
-    let n = pairs_of(weights.len(), frame.len(), block.len());
+    let n = pairs::taken(weights.len(), frame.len(), block.len());
     let mut j = 0;
     while j < n {
         let w = weights[j];
@@ -41,7 +40,7 @@ pub fn nearest_residues(weights: &[i16], frame: &[i16], block: &mut [i32])
 pub fn truncated_residues(kept_bits: u32, weights: &[i16], frame: &[i16], block: &mut [i32])
     ensures { λ r. ⌜ Filled (truncated (clamped «kept_bits»)) (now (weights .entry)) (now (frame .entry)) (now (block .entry)) (now (block .exit)) ⌝ }
 {
-    let n = pairs_of(weights.len(), frame.len(), block.len());
+    let n = pairs::taken(weights.len(), frame.len(), block.len());
     let mut j = 0;
     while j < n {
         let w = weights[j];
@@ -57,13 +56,6 @@ pub fn staged_residues(stages: u32, weights: &[i16], frame: &[i16], block: &mut 
 {
     let n = patterns::pairs_left(stages, weights, frame, block);
     multiply(n, block);
-}
-
-// How many pairs are taken of two slices of these lengths, for a block of so many places.
-fn pairs_of(weights: usize, frame: usize, places: usize) -> usize
-    ensures { λ r. ⌜ r ≡ pairsOf weights frame places ⌝ }
-{
-    pairs::fewer(pairs::fewer(weights, frame), places)
 }
 
 // Multiplies each of the first n places of a block by the one n places behind it.

@@ -1,9 +1,10 @@
 // A pair of 16-bit numbers, a weight and a number of a frame: its true product, the size of that, and whether the pair counts. No branch of
-// the compiled code depends on the numbers. And how many pairs there are, where two lengths bound them.
+// the compiled code depends on the numbers. And how many pairs there are, by the lengths of their slices.
 ghost use mathlib.Core.Path.{_≡_};
 ghost use Prim.Native.Nat.{min};
 ghost use lib.IntN.{natAbs, _*ℤ_};
 ghost use Rattle.designs.specs.Rows.{nonzero};
+ghost use Rattle.pairs.specs.Lengths.{pairsOf};
 
 // The true product.
 pub fn true_product(w: i16, x: i16) -> i32
@@ -33,7 +34,7 @@ pub fn counts(w: i16, x: i16) -> u32
     1
 }
 
-// The smaller of two lengths: two slices have as many pairs as the shorter has numbers.
+// The smaller of two lengths.
 pub fn fewer(a: usize, b: usize) -> usize
     ensures { λ r. ⌜ r ≡ min a b ⌝ }
 {
@@ -41,4 +42,11 @@ pub fn fewer(a: usize, b: usize) -> usize
         return a;
     }
     b
+}
+
+// How many pairs are taken of two slices of these lengths, where there is room for so many.
+pub fn taken(weights: usize, frame: usize, room: usize) -> usize
+    ensures { λ r. ⌜ r ≡ pairsOf weights frame room ⌝ }
+{
+    fewer(fewer(weights, frame), room)
 }

@@ -2,7 +2,7 @@
 use mathlib.Core.Path.{_≡_}
 use mathlib.Core.Bool.{cond}
 use mathlib.Core.List.{List}
-use Prim.Native.Nat.{ℕ, min, _+_, _-_, _/_, _^_, _≤_, _<_}
+use Prim.Native.Nat.{ℕ, _+_, _-_, _^_, _≤_, _<_}
 use lib.Dec.{ltb}
 use lib.IntN.{ℤ, pos, natAbs}
 use lib.ListN.{getD, length}
@@ -35,10 +35,6 @@ pub record Room (n : ℕ) (numbers : List ℤ) (from : ℕ) (block : List ℤ) :
 pub record Copied (n : ℕ) (numbers : List ℤ) (from : ℕ) (before after : List ℤ) : Type 0 where
   pub done : Done (joined from (place before) (place numbers)) (from + n) before after
   pub small : (i : ℕ) → i < n → natAbs (place numbers i) ≤ 2 ^ 15
-
--- how many pairs the stages take of two slices of these lengths, where each pair needs two of so many places
-abbrev pub pairsLeft : ℕ → ℕ → ℕ → ℕ
-pairsLeft weights frame places = min (min weights frame) (places / 2)
 
 -- What the stages leave of n weights, and behind them of n numbers of the frame, is in the first places, and small.
 pub record Left (stages : ℕ) (ws fs : List ℤ) (n : ℕ) (before after : List ℤ) : Type 0 where

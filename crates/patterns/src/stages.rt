@@ -1,11 +1,12 @@
 // What stages of design 3 leave of a block of numbers, one stage over the whole block before the next, so that a stage is vector code
 // for any number of stages. The steps inside take sizes of at most 2^15, which the block keeps; the numbers that come in are any.
 ghost use mathlib.Core.Path.{_≡_};
-ghost use Prim.Native.Nat.{_^_, _≤_};
+ghost use Prim.Native.Nat.{_/_, _^_, _≤_};
 ghost use lib.IntN.{natAbs};
 ghost use lib.ListN.{length};
 ghost use Rattle.designs.specs.Signs.{restℤ};
-ghost use Rattle.patterns.specs.Blocks.{Copied, Done, Left, pairsLeft, place, Room, Small};
+ghost use Rattle.pairs.specs.Lengths.{pairsOf};
+ghost use Rattle.patterns.specs.Blocks.{Copied, Done, Left, place, Room, Small};
 use crate::powers::less_power;
 
 // What one stage leaves of x, with its sign.
@@ -45,9 +46,9 @@ fn copy(n: usize, numbers: &[i16], from: usize, block: &mut [i32])
 // goes over both at once. The pairs are as many as both slices have numbers, and at most half as many as there are places; their number
 // is handed back. Later places keep their contents.
 pub fn pairs_left(stages: u32, weights: &[i16], frame: &[i16], left: &mut [i32]) -> usize
-    ensures { λ r. ⌜ (r ≡ pairsLeft (length (now (weights .entry))) (length (now (frame .entry))) (length (now (left .entry)))) × Left stages (now (weights .entry)) (now (frame .entry)) r (now (left .entry)) (now (left .exit)) ⌝ }
+    ensures { λ r. ⌜ (r ≡ pairsOf (length (now (weights .entry))) (length (now (frame .entry))) (length (now (left .entry)) / 2)) × Left stages (now (weights .entry)) (now (frame .entry)) r (now (left .entry)) (now (left .exit)) ⌝ }
 {
-    let n = pairs::fewer(pairs::fewer(weights.len(), frame.len()), left.len() / 2);
+    let n = pairs::taken(weights.len(), frame.len(), left.len() / 2);
     copy(n, weights, 0, left);
     copy(n, frame, n, left);
     let mut k = 0;

@@ -1,7 +1,7 @@
 -- A block takes a part of a row: place k of the part from `from` on is place from + k of the row, so a block that is filled for the part
 -- holds the residues of the row's pairs. Assumes nothing.
 use mathlib.Core.Path.{_≡_, ap, ap₂, _∙_}
-use Prim.Native.Nat.{ℕ, _+_, _-_, _≤_, _<_}
+use Prim.Native.Nat.{ℕ, _+_, _-_, _/_, _≤_, _<_}
 use native.Mathlib.Nat.{add-sub-cancel-left}
 use native.Mathlib.Omega.{arith}
 use mathlib.Core.List.{List}
@@ -10,7 +10,8 @@ use lib.ListN.{length, take, drop, length-drop}
 use lib.Seq.{getD-take, getD-drop, length-take-le}
 use Rattle.designs.specs.Designs.{Design, staged}
 use Rattle.designs.specs.Signs.{leftℤ, residue}
-use Rattle.patterns.specs.Blocks.{pairsLeft, place}
+use Rattle.pairs.specs.Lengths.{pairsOf}
+use Rattle.patterns.specs.Blocks.{place}
 use Rattle.patterns.proofs.Blocks.{in-first}
 use Rattle.blocks.specs.Residues.{Filled, FilledByStages, ofPair}
 use Rattle.rows.specs.Totals.{Holds, Inside}
@@ -46,6 +47,6 @@ module _ (ws fs : List ℤ) (from n : ℕ) (inside : Inside ws fs from n) where
   pub holds-by-stages : (s : ℕ) {E : Design} {before after : List ℤ} → staged s ≡ E → n + n ≤ length before → FilledByStages s us vs before after
       → Holds (ofPair (residue E) ws fs) from n after
   holds-by-stages s {before = before} same room by k h =
-      let all = pairsLeft (length us) (length vs) (length before) in
+      let all = pairsOf (length us) (length vs) (length before / 2) in
       let few : k < all = omega (arith, part-length ws from n (inside .weights), part-length fs from n (inside .frame)) in
       by .first k (omega arith) ∙ in-first all (ofPair (residue (staged s)) us vs) (λ i. leftℤ s (place vs i)) k few ∙ pair-at same k h

@@ -27,7 +27,7 @@ loop-again c =
     )
 
 returns : tie.Need-returns Inv-loop μ-loop
-returns c = rw (sym (c .before .before .pairs-of .ensures)) (all-done (c .before .loop .inv .1) (c .before .loop .inv .0) (c .loop-test .left))
+returns c = rw (sym (c .before .before .taken .ensures)) (all-done (c .before .loop .inv .1) (c .before .loop .inv .0) (c .loop-test .left))
 
 pub nearest-residues-spec : {M : Type 1} → statement M
 nearest-residues-spec =

@@ -1,7 +1,7 @@
 -- After i turns the first i numbers stand behind what stood before, and each is of 16 bits. Assumes nothing.
 use borrow.Author.Needs.{needs}
 use borrow.Author.Count.{below-more}
-use mathlib.Core.Path.{_≡_, ap, sym, _∙_}
+use mathlib.Core.Path.{sym, _∙_}
 use Prim.Native.Nat.{ℕ, _+_, _-_, _^_, _≤_, _<_}
 use native.Mathlib.Nat.{add-assoc, add-zero, le-antisymm}
 use native.Mathlib.Omega.{arith}

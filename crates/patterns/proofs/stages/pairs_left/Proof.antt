@@ -1,12 +1,12 @@
 -- After k turns the places have what k stages leave of the numbers of both slices, and these are small. Assumes nothing.
 use borrow.Author.Needs.{needs}
-use mathlib.Core.Path.{_≡_, ap, ap₂, sym, _∙_, subst}
-use Prim.Native.Nat.{ℕ, min, _+_, _-_, _/_, _≤_}
+use mathlib.Core.Path.{sym}
+use Prim.Native.Nat.{ℕ, _+_, _-_, _≤_}
 use native.Mathlib.Nat.{le-antisymm}
 use native.Mathlib.Omega.{arith}
 use lib.IntN.{ℤ}
 use lib.ListN.{length}
-use Rattle.patterns.specs.Blocks.{Done, joined, pairsLeft, place, Small}
+use Rattle.patterns.specs.Blocks.{Done, joined, place, Small}
 use Rattle.patterns.proofs.Blocks.{After, both-copied, both-small, done-small, no-stage, one-more, rest-small, then-done}
 use Rattle.patterns.proofs.stages.pairs_left.Statement.{statement}
 use Rattle.patterns.proofs.stages.pairs_left.Tie as tie
@@ -19,31 +19,28 @@ abbrev μ-loop : tie.MeasureT-loop
 μ-loop stages weights frame left₀ n k₀ left k = stages - k
 
 -- how many pairs are taken
-module _ (c : tie.After-fewer2 Inv-loop μ-loop) where
+module _ (c : tie.After-taken Inv-loop μ-loop) where
   abbrev start : tie.Start Inv-loop μ-loop
-  start = c .before .before
+  start = c .before
 
   abbrev n : ℕ
-  n = c .fewer2 .result
-
-  n-is : n ≡ pairsLeft (length (start .args .weights .now)) (length (start .args .frame .now)) (length (start .args .left .now))
-  n-is = c .fewer2 .ensures ∙ ap (λ (k : ℕ). min k (length (start .args .left .now) / 2)) (c .before .fewer .ensures)
+  n = c .taken .result
 
   room : n + n ≤ length (start .args .left .now)
-  room = omega (arith, c .fewer2 .ensures)
+  room = omega (arith, c .taken .ensures)
 
 copy-requires : tie.Need-copy-requires Inv-loop μ-loop
-copy-requires c κs = record { enough = omega (arith, c .before .fewer2 .ensures, c .before .before .fewer .ensures); places = omega (arith, room (c .before)) }
+copy-requires c κs = record { enough = omega (arith, c .before .taken .ensures); places = omega (arith, room (c .before)) }
 
 copy-requires-2 : tie.Need-copy-requires-2 Inv-loop μ-loop
 copy-requires-2 c κs =
     let copy = c .before .before in
     let counted = copy .before .before in
-    record { enough = omega (arith, counted .fewer2 .ensures, counted .before .fewer .ensures); places = omega (arith, room counted, copy .copy .ensures .done .size) }
+    record { enough = omega (arith, counted .taken .ensures); places = omega (arith, room counted, copy .copy .ensures .done .size) }
 
 -- both slices, copied
 module _ (c : tie.After-copy2 Inv-loop μ-loop) where
-  abbrev counted : tie.After-fewer2 Inv-loop μ-loop
+  abbrev counted : tie.After-taken Inv-loop μ-loop
   counted = c .before .before .before .before .before
 
   abbrev numbers : ℕ → ℤ
@@ -74,7 +71,7 @@ returns : tie.Need-returns Inv-loop μ-loop
 returns c =
     let d = c .before .before .before in
     let loop = c .before .loop in (
-      n-is (counted d),
+      counted d .taken .ensures,
       record {
         done = rw (sym (le-antisymm (loop .inv .2) (c .loop-test .left))) (then-done (copied d) (loop .inv .0));
         small = loop .inv .1;
@@ -87,7 +84,6 @@ pairs-left-spec =
     (tie.spec
     Inv-loop
     μ-loop
-    (λ c κs. search needs)
     (λ c κs. search needs)
     copy-requires
     copy-requires-2

@@ -1,7 +1,7 @@
 -- Each turn of `one_by_one` is the one law of a turn, with the residue that the design leaves of its pair. Assumes nothing.
 use borrow.Author.Needs.{needs}
 use mathlib.Core.Path.{_≡_, ap₂, _∙_}
-use Prim.Native.Nat.{ℕ, _-_, _≤_}
+use Prim.Native.Nat.{_-_, _≤_}
 use native.Mathlib.Omega.{arith}
 use lib.IntN.{ℤ, pos}
 use lib.ListN.{length, getD}
@@ -13,7 +13,7 @@ use Rattle.designs.specs.Products.{designOf}
 use Rattle.designs.specs.Signs.{residue}
 use Rattle.pairs.proofs.Integers.{widened, widens}
 use Rattle.blocks.specs.Residues.{ofPair}
-use Rattle.rows.specs.Totals.{Reached, withPair}
+use Rattle.rows.specs.Totals.{Reached}
 use Rattle.rows.proofs.Turn.{nothing, roomy, turn}
 use Rattle.rows.proofs.sums.one_by_one.Statement.{statement}
 use Rattle.rows.proofs.sums.one_by_one.Tie as tie
