@@ -1,6 +1,7 @@
 pub mod Cases
 pub mod Refusals
 pub mod Settings
+pub mod Outside
 pub mod Parts
 pub mod Differences
 pub mod Zeros

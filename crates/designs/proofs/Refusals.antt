@@ -2,7 +2,7 @@
 -- and of a list in two parts it is that of the first part, or, where nothing there applies, that of the second. Each law goes by the
 -- list's tests, one after the other. Assumes nothing.
 use mathlib.Core.Path.{_≡_, refl, sym, _∙_}
-use Prim.Native.Nat.{ℕ, zero, suc}
+use Prim.Native.Nat.{ℕ, zero, suc, _<_}
 use native.Mathlib.Omega.{arith}
 use mathlib.Core.Bool.{Bool, true, false, cond, _&&_}
 use mathlib.Core.List.{List, [], _∷_, _++_}
@@ -76,10 +76,10 @@ pub refused-is : {X : Type 0} (n : ℕ) (o : Outcome X) → (n ≡ 0 → ⊥) �
 refused-is zero o h = absurd (h refl)
 refused-is (suc n) o h = refl
 
--- nothing is refused with 0
-pub zero-accepts : {X : Type 0} (n : ℕ) (v : X) → refused 0 ≡ unlessRefused n v → ⊥
-zero-accepts zero v e = let z : _≡_ {A = ℕ} 0 1 = cc in omega arith
-zero-accepts (suc n) v e = let z : 0 ≡ suc n = cc in omega arith
+-- what is refused is refused with the number that was judged, which is not 0
+pub refused-with : {X : Type 0} (n k : ℕ) (v : X) → refused k ≡ unlessRefused n v → (n ≡ k) × (0 < k)
+refused-with zero k v e = let z : _≡_ {A = ℕ} 0 1 = cc in absurd (omega arith)
+refused-with (suc n) k v e = let z : suc n ≡ k = cc in (z, omega arith)
 
 -- a claim on an outcome, from the claim on each refusal of a list and on what is given where none applies
 pub by-outcome : {X : Type 0} (P : Outcome X → Type 0) (rs : List Refusal) {o : Outcome X} → Numbered rs

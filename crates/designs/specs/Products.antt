@@ -35,15 +35,19 @@ unknownWidth width = 2 when not (isWidth width)
 abbrev pub settingOutOfRange : ℕ → ℕ → ℕ → Refusal
 settingOutOfRange design width setting = 3 when not (takesSetting design width setting)
 
-abbrev pub operandOutsideWidth : Bool → Bool → Refusal
-operandOutsideWidth a-inside b-inside = 4 when not (a-inside && b-inside)
+abbrev pub firstOutsideWidth : Bool → Refusal
+firstOutsideWidth a-inside = 4 when not a-inside
 
--- In order: those of the numbers beside the operands, and those of the operands, of which is known whether each is inside the width.
+abbrev pub secondOutsideWidth : Bool → Refusal
+secondOutsideWidth b-inside = 20 when not b-inside
+
+-- In order: those of the numbers beside the operands, and those of the operands, of which is known whether each is inside the width. So 4
+-- is given wherever the first operand is outside, and 20 where only the second is.
 unfoldable pub settingRefusals : ℕ → ℕ → ℕ → List Refusal
 settingRefusals design width setting = unknownDesign design ∷ unknownWidth width ∷ settingOutOfRange design width setting ∷ []
 
 unfoldable pub operandRefusals : Bool → Bool → List Refusal
-operandRefusals a-inside b-inside = operandOutsideWidth a-inside b-inside ∷ []
+operandRefusals a-inside b-inside = firstOutsideWidth a-inside ∷ secondOutsideWidth b-inside ∷ []
 
 unfoldable pub refusals : ℕ → ℕ → ℕ → Bool → Bool → List Refusal
 unfolding settingRefusals operandRefusals

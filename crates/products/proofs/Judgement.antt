@@ -2,12 +2,11 @@
 -- the width, the kept bits and the operands are as the kernels need them. Assumes nothing.
 use mathlib.Core.Path.{_≡_, sym, ap, _∙_}
 use Prim.Native.Nat.{ℕ, _≤_}
-use mathlib.Core.Bool.{Bool, true, _&&_}
+use mathlib.Core.Bool.{Bool, true}
 use borrow.Author.Tests.{not-false}
 use Rattle.designs.specs.Designs.{KeepsBit, KeepsAtMost}
 use Rattle.designs.specs.Outcomes.{accepted, refused, first, unlessRefused}
 use Rattle.designs.specs.Products.{designOf, isDesign, isWidth, takesSetting, refusals}
-use Rattle.designs.proofs.Cases.{both}
 use Rattle.designs.proofs.Refusals.{none, refused-is}
 use Rattle.designs.proofs.Settings.{width-bounds, keeps, few}
 
@@ -27,14 +26,13 @@ module _ (design width setting : ℕ) (a b : Bool) {n : ℕ} (is : n ≡ first (
       let d = not-false (isDesign design) (tests 0) in
       let w = width-bounds width (not-false (isWidth width) (tests 1)) in
       let t = not-false (takesSetting design width setting) (tests 2) in
-      let inside = both a b (not-false (a && b) (tests 3)) in
       record {
         low = w .0;
         high = w .1;
         keeps = keeps design width setting d t;
         few = few design width setting d t (w .1);
-        a-inside = inside .0;
-        b-inside = inside .1;
+        a-inside = not-false a (tests 3);
+        b-inside = not-false b (tests 4);
       }
 
   -- the two outcomes

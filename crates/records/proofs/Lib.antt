@@ -1,4 +1,5 @@
 pub mod TwosComplement
+pub mod Kind1
 pub mod EveryKind
 pub mod Framing
 pub mod Sequence

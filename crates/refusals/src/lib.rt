@@ -20,7 +20,9 @@ pub const UNKNOWN_WIDTH: u32 = 2;
 
 pub const SETTING_OUT_OF_RANGE: u32 = 3;
 
-pub const OPERAND_OUTSIDE_WIDTH: u32 = 4;
+pub const FIRST_OPERAND_OUTSIDE_WIDTH: u32 = 4;
+
+pub const SECOND_OPERAND_OUTSIDE_WIDTH: u32 = 20;
 
 // Rows.
 pub const LENGTHS_DIFFER: u32 = 5;

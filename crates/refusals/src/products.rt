@@ -64,10 +64,10 @@ pub fn of_operands(a_inside: bool, b_inside: bool) -> u32
     ensures { λ r. ⌜ r ≡ first (operandRefusals «a_inside» «b_inside») ⌝ }
 {
     if !a_inside {
-        return crate::OPERAND_OUTSIDE_WIDTH;
+        return crate::FIRST_OPERAND_OUTSIDE_WIDTH;
     }
     if !b_inside {
-        return crate::OPERAND_OUTSIDE_WIDTH;
+        return crate::SECOND_OPERAND_OUTSIDE_WIDTH;
     }
     0
 }

@@ -2,14 +2,15 @@
 -- A refusal is never 0, so nothing is promised of the zeros beside it. Assumes nothing.
 use borrow.Author.Needs.{needs}
 use mathlib.Core.Path.{_≡_, refl, sym, ap, _∙_, subst}
-use Prim.Native.Nat.{ℕ}
+use Prim.Native.Nat.{ℕ, _<_}
+use native.Mathlib.Omega.{arith}
 use mathlib.Core.List.{List}
 use lib.IntN.{ℤ}
 use Rattle.designs.specs.Outcomes.{Outcome, accepted, refused}
 use Rattle.designs.specs.Products.{designOf}
 use Rattle.designs.specs.Rows.{Report, emptyReport, report}
 use Rattle.designs.specs.Scoring.{rowOutcome, rowRefusal}
-use Rattle.designs.proofs.Refusals.{zero-accepts}
+use Rattle.designs.proofs.Refusals.{refused-with}
 use Rattle.rows.specs.Answers.{given, reportOf}
 use Rattle.rows.specs.declared.RowReport.{RowReport}
 use Rattle.capi.specs.Rows.{RowLaid}
@@ -20,7 +21,7 @@ use Rattle.capi.proofs.highvane_score_row.Tie as tie
 refused-not-0 : (design setting : ℕ) (ws fs before : List ℤ) (n : ℕ) → refused n ≡ rowOutcome design setting ws fs before → n ≡ 0 → ⊥
 unfolding rowOutcome
 refused-not-0 design setting ws fs before n e z =
-    zero-accepts (rowRefusal design setting ws fs before) (report (designOf design setting) ws fs) (rw z at e)
+    let h : 0 < n = refused-with (rowRefusal design setting ws fs before) n (report (designOf design setting) ws fs) e .1 in omega arith
 
 -- the two cases of the struct
 report-laid : (x : RowReport) {o : Outcome Report} → accepted (reportOf x) ≡ o → RowLaid o (record { report = x; refusal = 0 })

@@ -1,4 +1,4 @@
--- `of_operands` makes the test of `operandRefusals`, an operand after the other. Assumes nothing.
+-- `of_operands` makes the tests of `operandRefusals` in their order. Assumes nothing.
 use borrow.Author.Tests.{not-true, not-false}
 use Rattle.designs.specs.Outcomes.{first}
 use Rattle.designs.specs.Products.{operandRefusals}
