@@ -29,7 +29,7 @@ extern "C" {
 #endif
 
 /* The version. Code that works with one version works, compiled again, with every later one of the same first number. */
-#define HIGHVANE_VERSION_MAJOR 1
+#define HIGHVANE_VERSION_MAJOR 2
 #define HIGHVANE_VERSION_MINOR 0
 #define HIGHVANE_VERSION_PATCH 0
 
@@ -47,7 +47,7 @@ enum highvane_refusal {
     HIGHVANE_UNKNOWN_DESIGN = 1,
     HIGHVANE_UNKNOWN_WIDTH = 2,
     HIGHVANE_SETTING_OUT_OF_RANGE = 3,
-    HIGHVANE_OPERAND_OUTSIDE_WIDTH = 4,
+    HIGHVANE_FIRST_OPERAND_OUTSIDE_WIDTH = 4,
     HIGHVANE_LENGTHS_DIFFER = 5,
     HIGHVANE_TOO_MANY_PAIRS = 6,
     HIGHVANE_RESIDUES_TOO_SHORT = 7,
@@ -62,7 +62,8 @@ enum highvane_refusal {
     HIGHVANE_SIZE_TOO_LARGE = 16,
     HIGHVANE_UNKNOWN_KIND = 17,
     HIGHVANE_CUT_SHORT = 18,
-    HIGHVANE_INPUT_TOO_LONG = 19
+    HIGHVANE_INPUT_TOO_LONG = 19,
+    HIGHVANE_SECOND_OPERAND_OUTSIDE_WIDTH = 20
 };
 
 /* What a refusal means, as a sentence without a full stop; also for 0, and for a number that is no refusal. */
@@ -77,7 +78,7 @@ const char *highvane_refusal_text(uint32_t refusal) {
     case HIGHVANE_UNKNOWN_DESIGN: return "the design is not 1 to 4";
     case HIGHVANE_UNKNOWN_WIDTH: return "the width is not 8, 16 or 32";
     case HIGHVANE_SETTING_OUT_OF_RANGE: return "the setting is not one that the design takes at this width";
-    case HIGHVANE_OPERAND_OUTSIDE_WIDTH: return "an operand is outside the width";
+    case HIGHVANE_FIRST_OPERAND_OUTSIDE_WIDTH: return "the first operand is outside the width";
     case HIGHVANE_LENGTHS_DIFFER: return "the weights and the frame differ in length";
     case HIGHVANE_TOO_MANY_PAIRS: return "the row has more than 4,096 pairs";
     case HIGHVANE_RESIDUES_TOO_SHORT: return "there are fewer places for the residues than pairs";
@@ -93,6 +94,7 @@ const char *highvane_refusal_text(uint32_t refusal) {
     case HIGHVANE_UNKNOWN_KIND: return "the record's kind is unknown";
     case HIGHVANE_CUT_SHORT: return "the record's body is cut short";
     case HIGHVANE_INPUT_TOO_LONG: return "the input is longer than 65,536 bytes";
+    case HIGHVANE_SECOND_OPERAND_OUTSIDE_WIDTH: return "only the second operand is outside the width";
     default: return "no refusal has this number";
     }
 }
@@ -110,14 +112,14 @@ typedef struct { float value; uint32_t refusal; } highvane_single;
 
 /*
  * The design's product of two operands of `width` bits, w: 8, 16 or 32. Operands are 0 to 2^w - 1.
- * Refusals: 1, 2, 3, 4.
+ * Refusals: 1, 2, 3, 4, 20.
  */
 highvane_unsigned highvane_product_unsigned(uint32_t design, uint32_t width, uint32_t setting, uint64_t a, uint64_t b);
 
 /*
  * The same for signed operands, -2^(w-1) to 2^(w-1) - 1: the design's product of their sizes, with a minus sign where their signs
  * differ.
- * Refusals: 1, 2, 3, 4.
+ * Refusals: 1, 2, 3, 4, 20.
  */
 highvane_signed highvane_product_signed(uint32_t design, uint32_t width, uint32_t setting, int64_t a, int64_t b);
 

@@ -2,8 +2,8 @@
 """What include/highvane.h names, everything else has under the same name, with the same number and the same text.
 
 - The archive and the shared object export the functions that it declares, and no other.
-- The packages for Rust and Python have its version, functions, designs, limits and refusals with their texts; the crate `refusals` has
-  the refusals.
+- The packages for Rust and Python have its version, functions, designs, limits and refusals with their texts; the reference program has
+  the refusals with their texts, and the crate `refusals` has the refusals.
 - tests/c/check_names.c holds every constant of it against a call.
 
     python3 tests/names.py ARCHIVE SHARED-OBJECT
@@ -17,8 +17,9 @@ if len(sys.argv) != 3:
     sys.exit(__doc__)
 sys.dont_write_bytecode = True  # nothing is to appear in the repository
 ROOT = pathlib.Path(__file__).resolve().parent.parent
-sys.path.insert(0, str(ROOT / 'bindings/python'))
+sys.path[:0] = [str(ROOT / 'bindings/python'), str(ROOT / 'tools')]
 import highvane  # noqa: E402
+from reference_meaning import refusals as reference  # noqa: E402
 
 
 def text(path):
@@ -75,6 +76,9 @@ compare('tests/c/check_names.c', constant=there(r'\bHIGHVANE_(\w+)', text('tests
 # the crate has no texts
 known = numbers(r'pub const (\w+): u32 = (\d+);', text('crates/refusals/src/lib.rt'))
 compare('crates/refusals', refusal={name: (number, texts.get(name)) for name, number in known.items()})
+
+named = {name: number for name, number in vars(reference).items() if isinstance(number, int) and number}
+compare('tools/reference_meaning/refusals.py', refusal={name: (number, reference.TEXTS.get(number)) for name, number in named.items()})
 
 rust = ''.join(path.read_text() for path in sorted((ROOT / 'bindings/rust/src').glob('*.rs')))
 compare('bindings/rust/Cargo.toml', version=version(r'^version = "(.*)"$', text('bindings/rust/Cargo.toml')))

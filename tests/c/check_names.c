@@ -30,11 +30,12 @@ static uint32_t in_text(uint8_t kind, size_t input_len) {
 
 /* Each refusal has a text of its own, and so have no refusal and a number that is none. */
 static void texts(void) {
-    for (uint32_t refusal = HIGHVANE_ACCEPTED; refusal <= HIGHVANE_INPUT_TOO_LONG + 1; refusal++)
+    const uint32_t none = HIGHVANE_SECOND_OPERAND_OUTSIDE_WIDTH + 1;
+    for (uint32_t refusal = HIGHVANE_ACCEPTED; refusal <= none; refusal++)
         for (uint32_t other = HIGHVANE_ACCEPTED; other < refusal; other++)
             compare(strcmp(highvane_refusal_text(refusal), highvane_refusal_text(other)) != 0,
                     "refusals %" PRIu32 " and %" PRIu32 " have one text", refusal, other);
-    compare(strcmp(highvane_refusal_text(UINT32_MAX), highvane_refusal_text(HIGHVANE_INPUT_TOO_LONG + 1)) == 0,
+    compare(strcmp(highvane_refusal_text(UINT32_MAX), highvane_refusal_text(none)) == 0,
             "two numbers of no refusal have two texts");
     part("texts of the refusals");
 }
@@ -47,7 +48,8 @@ void check_names(void) {
     NAMED(HIGHVANE_SETTING_OUT_OF_RANGE, highvane_product_signed(HIGHVANE_STAGED, 8, 9, 1, 1).refusal);
     NAMED(HIGHVANE_ACCEPTED, highvane_product_signed(HIGHVANE_STAGED, 8, 8, 1, 1).refusal);
     NAMED(HIGHVANE_SETTING_OUT_OF_RANGE, highvane_product_signed(HIGHVANE_TRUNCATED, 8, 8, 1, 1).refusal);
-    NAMED(HIGHVANE_OPERAND_OUTSIDE_WIDTH, highvane_product_unsigned(HIGHVANE_MITCHELL, 8, 0, 256, 1).refusal);
+    NAMED(HIGHVANE_FIRST_OPERAND_OUTSIDE_WIDTH, highvane_product_unsigned(HIGHVANE_MITCHELL, 8, 0, 256, 256).refusal);
+    NAMED(HIGHVANE_SECOND_OPERAND_OUTSIDE_WIDTH, highvane_product_unsigned(HIGHVANE_MITCHELL, 8, 0, 255, 256).refusal);
     NAMED(HIGHVANE_LENGTHS_DIFFER, score(2, 3, 3));
     NAMED(HIGHVANE_TOO_MANY_PAIRS, score(HIGHVANE_PAIRS_MAX + 1, HIGHVANE_PAIRS_MAX + 1, HIGHVANE_PAIRS_MAX + 1));
     NAMED(HIGHVANE_ACCEPTED, score(HIGHVANE_PAIRS_MAX, HIGHVANE_PAIRS_MAX, HIGHVANE_PAIRS_MAX));

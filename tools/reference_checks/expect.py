@@ -1,6 +1,6 @@
 """How a self-check fails, and the checks that every operation has."""
 
-from reference_meaning.refusals import ACCEPTED, first_of
+from reference_meaning.refusals import ACCEPTED, first_of, said
 
 
 class SelfCheckFailed(Exception):
@@ -20,6 +20,6 @@ def check_refusals(what, order, chosen, refusal_of):
         found, due = refusal_of(case), first_of(order, applying)
         # A row may be long, so its start has to do.
         shown = str(case)[:200]
-        expect(found == due, f"{what} {shown}: refusal {found}, not {due}, applying {applying}")
+        expect(found == due, f"{what} {shown}: refusal {said(found)}, not {said(due)}, applying {applying}")
     found = {refusal_of(case) for case in chosen.cases}
     expect(found == {ACCEPTED, *order}, f"{what}: outcomes {sorted(found)}")

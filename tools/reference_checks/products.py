@@ -19,7 +19,7 @@ def check_figures():
         expect(found_residue == residue, f"figure {case}: residue {found_residue}, not {residue}")
     for case, refusal in figures.JUDGED_PRODUCTS:
         found = product_refusal(case)
-        expect(found == refusal, f"example {case}: refusal {found}, not {refusal}")
+        expect(found == refusal, f"example {case}: refusal {refusals.said(found)}, not {refusals.said(refusal)}")
 
 
 # The residues are worked out from the sizes by searching, not through the functions that

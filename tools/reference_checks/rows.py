@@ -26,7 +26,7 @@ def check_figures():
     expect(found == (0, figures.ROW_REPORT), f"the row with a star: {found}")
     for length, refusal in figures.ROW_LENGTHS:
         found = row_refusal(row_of(MITCHELL, 0, [(1, 1)] * length, 0))
-        expect(found == refusal, f"row of {length} pairs: refusal {found}, not {refusal}")
+        expect(found == refusal, f"row of {length} pairs: refusal {refusals.said(found)}, not {refusals.said(refusal)}")
 
 
 def tie_bound(_setting, size, report):

@@ -34,7 +34,18 @@ JUDGED_PRODUCTS = (
     (ProductInput(SIGNED, 3, 8, 9, 7, 7), 3),
     (ProductInput(SIGNED, 1, 8, 0, -128, 1), 0),
     (ProductInput(SIGNED, 1, 8, 0, 1, -128), 0),
-    (ProductInput(SIGNED, 1, 8, 0, 128, 1), 4),
+    (ProductInput(SIGNED, 1, 8, 0, 128, 5), 4),
+    (ProductInput(SIGNED, 1, 8, 0, 5, 128), 20),
+    (ProductInput(SIGNED, 1, 8, 0, 128, 128), 4),
+    (ProductInput(UNSIGNED, 1, 8, 0, 256, 5), 4),
+    (ProductInput(UNSIGNED, 1, 8, 0, 5, 256), 20),
+    (ProductInput(UNSIGNED, 1, 8, 0, 256, 256), 4),
+    (ProductInput(SIGNED, 1, 8, 1, 128, 5), 3),
+    (ProductInput(SIGNED, 1, 8, 1, 5, 128), 3),
+    (ProductInput(SIGNED, 1, 8, 1, 128, 128), 3),
+    (ProductInput(UNSIGNED, 1, 8, 1, 256, 5), 3),
+    (ProductInput(UNSIGNED, 1, 8, 1, 5, 256), 3),
+    (ProductInput(UNSIGNED, 1, 8, 1, 256, 256), 3),
 )
 
 # The row with a star, by design 1, and its report.

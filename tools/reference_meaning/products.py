@@ -31,9 +31,11 @@ def product_refusal(case):
     if case.width not in WIDTHS:
         return refusals.UNKNOWN_WIDTH
     if case.setting not in settings_accepted(case.design, case.width):
-        return refusals.UNLISTED_SETTING
-    if not (fits(case.kind, case.width, case.a) and fits(case.kind, case.width, case.b)):
-        return refusals.OPERAND_OUTSIDE_WIDTH
+        return refusals.SETTING_OUT_OF_RANGE
+    if not fits(case.kind, case.width, case.a):
+        return refusals.FIRST_OPERAND_OUTSIDE_WIDTH
+    if not fits(case.kind, case.width, case.b):
+        return refusals.SECOND_OPERAND_OUTSIDE_WIDTH
     return refusals.ACCEPTED
 
 

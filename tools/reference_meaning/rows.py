@@ -19,7 +19,7 @@ def row_refusal(case):
     if case.design not in DESIGNS:
         return refusals.UNKNOWN_DESIGN
     if case.setting not in settings_accepted(case.design, ROW_WIDTH):
-        return refusals.UNLISTED_SETTING
+        return refusals.SETTING_OUT_OF_RANGE
     if len(case.weights) != len(case.frame):
         return refusals.LENGTHS_DIFFER
     if len(case.weights) > MAX_PAIRS:

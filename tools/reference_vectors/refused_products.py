@@ -79,12 +79,11 @@ def refused_cases():
         yield from outside_operand_cases(kind)
 
 
-def order_pairs(kind, wrong):
-    if not wrong:
-        return plain_pairs(kind)[:1]
-    if kind == UNSIGNED:
-        return [(2**32, 3), (3, MAX_U64), (MAX_U64, 2**32)]
-    return [(MIN_I64, 3), (3, 2**31), (-(2**31) - 1, MAX_I64)]
+def order_pair(kind, first_outside, second_outside):
+    """Two operands, each of which is inside every width or outside all of them."""
+    inside = plain_pairs(kind)[0]
+    outside = (MAX_U64, 2**32) if kind == UNSIGNED else (-(2**31) - 1, MAX_I64)
+    return (outside if first_outside else inside)[0], (outside if second_outside else inside)[1]
 
 
 def refusal_sets():
@@ -96,10 +95,14 @@ def refusal_sets():
 def order_cases():
     """Pairs of the refusals that apply and an input to which they apply."""
     for kind, applying in itertools.product(PRODUCT_KINDS, refusal_sets()):
+        a, b = order_pair(
+            kind,
+            refusals.FIRST_OPERAND_OUTSIDE_WIDTH in applying,
+            refusals.SECOND_OPERAND_OUTSIDE_WIDTH in applying,
+        )
         for design in order_designs(refusals.UNKNOWN_DESIGN in applying):
-            for width, setting, (a, b) in itertools.product(
+            for width, setting in itertools.product(
                 order_widths(refusals.UNKNOWN_WIDTH in applying),
-                order_settings(design, refusals.UNLISTED_SETTING in applying),
-                order_pairs(kind, refusals.OPERAND_OUTSIDE_WIDTH in applying),
+                order_settings(design, refusals.SETTING_OUT_OF_RANGE in applying),
             ):
                 yield applying, ProductInput(kind, design, width, setting, a, b)

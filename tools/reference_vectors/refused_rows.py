@@ -111,7 +111,7 @@ def order_row_designs(applying):
     pairs = [
         (design, setting)
         for design in order_designs(refusals.UNKNOWN_DESIGN in applying)
-        for setting in order_settings(design, refusals.UNLISTED_SETTING in applying)
+        for setting in order_settings(design, refusals.SETTING_OUT_OF_RANGE in applying)
     ]
     return pairs[:1] if refusals.TOO_MANY_PAIRS in applying else pairs
 

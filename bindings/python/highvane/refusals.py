@@ -21,7 +21,7 @@ class Refusal(enum.IntEnum):
     UNKNOWN_DESIGN = 1, 'the design is not 1 to 4'
     UNKNOWN_WIDTH = 2, 'the width is not 8, 16 or 32'
     SETTING_OUT_OF_RANGE = 3, 'the setting is not one that the design takes at this width'
-    OPERAND_OUTSIDE_WIDTH = 4, 'an operand is outside the width'
+    FIRST_OPERAND_OUTSIDE_WIDTH = 4, 'the first operand is outside the width'
     LENGTHS_DIFFER = 5, 'the weights and the frame differ in length'
     TOO_MANY_PAIRS = 6, 'the row has more than 4,096 pairs'
     RESIDUES_TOO_SHORT = 7, 'there are fewer places for the residues than pairs'
@@ -37,6 +37,7 @@ class Refusal(enum.IntEnum):
     UNKNOWN_KIND = 17, "the record's kind is unknown"
     CUT_SHORT = 18, "the record's body is cut short"
     INPUT_TOO_LONG = 19, 'the input is longer than 65,536 bytes'
+    SECOND_OPERAND_OUTSIDE_WIDTH = 20, 'only the second operand is outside the width'
 
 
 class Refused(Exception):

@@ -43,7 +43,7 @@ class Package(unittest.TestCase):
         refused = pickle.loads(pickle.dumps(highvane.Refused(14)))
         self.assertIs(refused.refusal, highvane.Refusal.NO_SUCH_ROW)
         self.assertEqual(str(refused), 'refusal 14: the store has no row of that number')
-        self.assertRaises(ValueError, highvane.Refused, 20)
+        self.assertRaises(ValueError, highvane.Refused, max(highvane.Refusal) + 1)
 
     def test_folder_of_the_shared_object(self):
         with tempfile.TemporaryDirectory() as name:

@@ -112,7 +112,7 @@ impl Design {
 /// assert_eq!(signed_product(Design::Mitchell, Width::Bits16, 128, 1), Ok(128));
 /// assert_eq!(
 ///     signed_product(Design::Mitchell, Width::Bits8, 128, 1),
-///     Err(Refusal::OperandOutsideWidth)
+///     Err(Refusal::FirstOperandOutsideWidth)
 /// );
 /// ```
 #[derive(Clone, Copy, Debug, PartialEq, Eq, Hash)]

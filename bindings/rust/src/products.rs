@@ -7,7 +7,7 @@ use crate::{Design, Refusal, Width, raw};
 ///
 /// # Errors
 ///
-/// The refusals 1, 2, 3 and 4, in this order.
+/// The refusals 1, 2, 3, 4 and 20, in this order.
 ///
 /// ```
 /// use highvane::{Design, Refusal, Width, unsigned_product};
@@ -16,7 +16,7 @@ use crate::{Design, Refusal, Width, raw};
 /// assert_eq!(unsigned_product(Design::NearestPower, Width::Bits8, 5, 6), Ok(32));
 /// assert_eq!(
 ///     unsigned_product(Design::Mitchell, Width::Bits8, 256, 1),
-///     Err(Refusal::OperandOutsideWidth)
+///     Err(Refusal::FirstOperandOutsideWidth)
 /// );
 /// ```
 pub fn unsigned_product(design: Design, width: Width, a: u64, b: u64) -> Result<u64, Refusal> {
@@ -29,7 +29,7 @@ pub fn unsigned_product(design: Design, width: Width, a: u64, b: u64) -> Result<
 ///
 /// # Errors
 ///
-/// The refusals 1, 2, 3 and 4, in this order.
+/// The refusals 1, 2, 3, 4 and 20, in this order.
 ///
 /// ```
 /// use highvane::{Design, Refusal, Width, signed_product};
@@ -37,8 +37,8 @@ pub fn unsigned_product(design: Design, width: Width, a: u64, b: u64) -> Result<
 /// assert_eq!(signed_product(Design::NearestPower, Width::Bits8, -5, 6), Ok(-32));
 /// assert_eq!(signed_product(Design::Mitchell, Width::Bits8, -128, -128), Ok(16384));
 /// assert_eq!(
-///     signed_product(Design::Mitchell, Width::Bits8, 128, 1),
-///     Err(Refusal::OperandOutsideWidth)
+///     signed_product(Design::Mitchell, Width::Bits8, 5, 128),
+///     Err(Refusal::SecondOperandOutsideWidth)
 /// );
 /// ```
 pub fn signed_product(design: Design, width: Width, a: i64, b: i64) -> Result<i64, Refusal> {

@@ -71,7 +71,7 @@ refusals! {
     UnknownDesign = 1, "the design is not 1 to 4";
     UnknownWidth = 2, "the width is not 8, 16 or 32";
     SettingOutOfRange = 3, "the setting is not one that the design takes at this width";
-    OperandOutsideWidth = 4, "an operand is outside the width";
+    FirstOperandOutsideWidth = 4, "the first operand is outside the width";
     LengthsDiffer = 5, "the weights and the frame differ in length";
     TooManyPairs = 6, "the row has more than 4,096 pairs";
     ResiduesTooShort = 7, "there are fewer places for the residues than pairs";
@@ -87,6 +87,7 @@ refusals! {
     UnknownKind = 17, "the record's kind is unknown";
     CutShort = 18, "the record's body is cut short";
     InputTooLong = 19, "the input is longer than 65,536 bytes";
+    SecondOperandOutsideWidth = 20, "only the second operand is outside the width";
 }
 
 impl Refusal {

@@ -62,10 +62,12 @@ pub unsignedJudged : List (Outcome ℕ × Outcome ℕ)
 unfolding unsignedOutcome
 unsignedJudged =
     (unsignedOutcome 1 8 0 255 255, accepted 65024)
-    ∷ (unsignedOutcome 1 8 0 256 255, refused 4)
-    ∷ (unsignedOutcome 1 8 0 255 256, refused 20)
+    ∷ (unsignedOutcome 1 8 0 256 5, refused 4)
+    ∷ (unsignedOutcome 1 8 0 5 256, refused 20)
     ∷ (unsignedOutcome 1 8 0 256 256, refused 4)
-    ∷ (unsignedOutcome 1 8 1 255 256, refused 3)
+    ∷ (unsignedOutcome 1 8 1 256 5, refused 3)
+    ∷ (unsignedOutcome 1 8 1 5 256, refused 3)
+    ∷ (unsignedOutcome 1 8 1 256 256, refused 3)
     ∷ (unsignedOutcome 1 16 0 65535 65535, accepted 4294836224)
     ∷ (unsignedOutcome 1 16 0 65535 65536, refused 20)
     ∷ (unsignedOutcome 2 32 0 4294967295 4294967295, accepted 18446744065119617024)
@@ -95,10 +97,11 @@ judged =
     ∷ (signedOutcome 1 8 0 (pos 5) (pos 128), refused 20)
     ∷ (signedOutcome 1 8 0 (pos 128) (pos 128), refused 4)
     ∷ (signedOutcome 1 8 0 (pos 5) (− 129), refused 20)
-    ∷ (signedOutcome 1 8 1 (pos 128) (pos 1), refused 3)
+    ∷ (signedOutcome 1 8 1 (pos 128) (pos 5), refused 3)
     ∷ (signedOutcome 1 8 1 (pos 5) (pos 128), refused 3)
-    ∷ (signedOutcome 1 7 1 (pos 128) (pos 1), refused 2)
-    ∷ (signedOutcome 5 7 1 (pos 128) (pos 1), refused 1)
+    ∷ (signedOutcome 1 8 1 (pos 128) (pos 128), refused 3)
+    ∷ (signedOutcome 1 7 1 (pos 128) (pos 128), refused 2)
+    ∷ (signedOutcome 5 7 1 (pos 128) (pos 128), refused 1)
     ∷ []
 
 pub judged-hold : map (λ j. j .0) judged ≡ map (λ j. j .1) judged

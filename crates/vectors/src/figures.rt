@@ -15,9 +15,9 @@ use crate::row_vectors::count_at;
 use crate::row_vectors::is_due;
 use crate::tally::Tally;
 
-// In their order: the table's rows; that design 3 at width 8 takes 8 stages, and neither 0 nor 9; that width 8 signed takes −128 as
-// the first operand, and not 128; the starred row; that 4,096 pairs are scored, and 4,097 not; that −20 over 2^3 is handed out as −2.5,
-// and T 39 then as 4.875; the singles.
+// In their order: the table's rows; that design 3 at width 8 takes 8 stages, and neither 0 nor 9; that width 8 takes −128, and which of
+// two operands it does not take, 128 signed or 256 unsigned, also beside a wrong setting; the starred row; that 4,096 pairs are scored, and
+// 4,097 not; that −20 over 2^3 is handed out as −2.5, and T 39 then as 4.875; the singles.
 pub fn run() -> Tally {
     lines::count(
         b"q 1 8 0 255 0 65024 1
@@ -28,7 +28,18 @@ u 3 8 8 7 7 0 49
 u 3 8 0 7 7 3 0
 u 3 8 9 7 7 3 0
 s 1 8 0 -128 1 0 -128
-s 1 8 0 128 1 4 0
+s 1 8 0 128 5 4 0
+s 1 8 0 5 128 20 0
+s 1 8 0 128 128 4 0
+u 1 8 0 256 5 4 0
+u 1 8 0 5 256 20 0
+u 1 8 0 256 256 4 0
+s 1 8 1 128 5 3 0
+s 1 8 1 5 128 3 0
+s 1 8 1 128 128 3 0
+u 1 8 1 256 5 3 0
+u 1 8 1 5 256 3 0
+u 1 8 1 256 256 3 0
 r 1 0 3 3 -5 0 3 3 6 7 3 0 -20 -21 -1 39 2 3 1 -2 0
 n 4096 0 4096 4096 0 4096 4096 4096
 n 4097 6 0 0 0 0 0 0

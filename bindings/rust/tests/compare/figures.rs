@@ -32,12 +32,23 @@ const PRODUCTS: [Product; 15] = [
 type Judged = (bool, (u32, u32, u32), (i128, i128), Result<i128, u32>);
 
 /// Settings and operands at their limits.
-const JUDGED: [Judged; 5] = [
+const JUDGED: [Judged; 16] = [
     (false, (3, 8, 8), (7, 7), Ok(49)),
     (false, (3, 8, 0), (7, 7), Err(3)),
     (false, (3, 8, 9), (7, 7), Err(3)),
     (true, (1, 8, 0), (-128, 1), Ok(-128)),
-    (true, (1, 8, 0), (128, 1), Err(4)),
+    (true, (1, 8, 0), (128, 5), Err(4)),
+    (true, (1, 8, 0), (5, 128), Err(20)),
+    (true, (1, 8, 0), (128, 128), Err(4)),
+    (false, (1, 8, 0), (256, 5), Err(4)),
+    (false, (1, 8, 0), (5, 256), Err(20)),
+    (false, (1, 8, 0), (256, 256), Err(4)),
+    (true, (1, 8, 1), (128, 5), Err(3)),
+    (true, (1, 8, 1), (5, 128), Err(3)),
+    (true, (1, 8, 1), (128, 128), Err(3)),
+    (false, (1, 8, 1), (256, 5), Err(3)),
+    (false, (1, 8, 1), (5, 256), Err(3)),
+    (false, (1, 8, 1), (256, 256), Err(3)),
 ];
 
 const SINGLES: [(u32, u32, Result<u32, u32>); 4] = [

@@ -35,8 +35,11 @@ pub fn outcome(signed: bool, (design, width, setting): (u32, u32, u32), (a, b): 
         return Err(3);
     }
     let (low, high) = range(signed, width);
-    if a < low || a > high || b < low || b > high {
+    if a < low || a > high {
         return Err(4);
+    }
+    if b < low || b > high {
+        return Err(20);
     }
     Ok(signed_product(design, setting, a, b))
 }
