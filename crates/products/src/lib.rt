@@ -23,11 +23,15 @@ pub enum Signed {
 pub fn unsigned_product(design: u32, width: u32, setting: u32, a: u64, b: u64) -> Unsigned
     ensures { λ r. ⌜ unsignedGiven r ≡ unsignedOutcome design width setting a b ⌝ }
 {
+    let by_setting = refusals::of_setting(design, width, setting);
+    if by_setting != 0 {
+        return Unsigned::Refused(by_setting);
+    }
     let a_inside = operands::inside_unsigned(width, a);
     let b_inside = operands::inside_unsigned(width, b);
-    let refusal = refusals::of_product(design, width, setting, a_inside, b_inside);
-    if refusal != 0 {
-        return Unsigned::Refused(refusal);
+    let by_operands = refusals::of_operands(a_inside, b_inside);
+    if by_operands != 0 {
+        return Unsigned::Refused(by_operands);
     }
     Unsigned::Value(by_design::product_of(design, setting, a as u32, b as u32))
 }
@@ -36,11 +40,15 @@ pub fn unsigned_product(design: u32, width: u32, setting: u32, a: u64, b: u64) -
 pub fn signed_product(design: u32, width: u32, setting: u32, a: i64, b: i64) -> Signed
     ensures { λ r. ⌜ signedGiven r ≡ signedOutcome design width setting a b ⌝ }
 {
+    let by_setting = refusals::of_setting(design, width, setting);
+    if by_setting != 0 {
+        return Signed::Refused(by_setting);
+    }
     let a_inside = operands::inside_signed(width, a);
     let b_inside = operands::inside_signed(width, b);
-    let refusal = refusals::of_product(design, width, setting, a_inside, b_inside);
-    if refusal != 0 {
-        return Signed::Refused(refusal);
+    let by_operands = refusals::of_operands(a_inside, b_inside);
+    if by_operands != 0 {
+        return Signed::Refused(by_operands);
     }
     Signed::Value(by_design::signed_of(design, setting, a, b))
 }

@@ -6,7 +6,6 @@ mod rows;
 pub use products::is_design;
 pub use products::is_width;
 pub use products::of_operands;
-pub use products::of_product;
 pub use products::of_setting;
 pub use products::takes_setting;
 pub use rows::of_design;

@@ -1,7 +1,7 @@
 // The refusals of a product: by its design, its width and its setting, and by its operands.
 ghost use mathlib.Core.Path.{_≡_};
 ghost use Rattle.designs.specs.Outcomes.{first};
-ghost use Rattle.designs.specs.Products.{isDesign, isWidth, takesSetting, settingRefusals, operandRefusals, refusals};
+ghost use Rattle.designs.specs.Products.{isDesign, isWidth, takesSetting, settingRefusals, operandRefusals};
 
 pub fn is_design(design: u32) -> bool
     ensures { λ r. ⌜ r ≡ isDesign design ⌝ }
@@ -70,15 +70,4 @@ pub fn of_operands(a_inside: bool, b_inside: bool) -> u32
         return crate::SECOND_OPERAND_OUTSIDE_WIDTH;
     }
     0
-}
-
-// The refusal of a product, or 0.
-pub fn of_product(design: u32, width: u32, setting: u32, a_inside: bool, b_inside: bool) -> u32
-    ensures { λ r. ⌜ r ≡ first (refusals design width setting «a_inside» «b_inside») ⌝ }
-{
-    let by_setting = of_setting(design, width, setting);
-    if by_setting != 0 {
-        return by_setting;
-    }
-    of_operands(a_inside, b_inside)
 }
