@@ -1,14 +1,14 @@
 -- The first refusal of a list that applies. Where it is 0, no test of the list holds; where it is not, it is one of the list's numbers;
 -- and of a list in two parts it is that of the first part, or, where nothing there applies, that of the second. Each law goes by the
 -- list's tests, one after the other. Assumes nothing.
-use mathlib.Core.Path.{_≡_, refl, sym, _∙_}
+use mathlib.Core.Path.{_≡_, refl, sym, ap, _∙_}
 use Prim.Native.Nat.{ℕ, zero, suc, _<_}
 use native.Mathlib.Omega.{arith}
 use mathlib.Core.Bool.{Bool, true, false, cond, _&&_}
 use mathlib.Core.List.{List, [], _∷_, _++_}
 use lib.Dec.{T, ltb}
 use lib.Ieee.Fits.{and-l, and-r}
-use Rattle.designs.specs.Outcomes.{Outcome, refused, Refusal, _when_, first, otherwise, unlessRefused}
+use Rattle.designs.specs.Outcomes.{Outcome, accepted, refused, Refusal, _when_, first, otherwise, unlessRefused}
 use Rattle.designs.proofs.Cases.{by-bool}
 
 -- whether the refusal at a place of a list applies
@@ -75,6 +75,13 @@ of-second (r ∷ xs) ys h {n} e z =
 pub refused-is : {X : Type 0} (n : ℕ) (o : Outcome X) → (n ≡ 0 → ⊥) → refused n ≡ otherwise n o
 refused-is zero o h = absurd (h refl)
 refused-is (suc n) o h = refl
+
+-- the outcome by a number that was found, where m is the number that is meant
+pub refuses : {X : Type 0} (v : X) {n m : ℕ} → n ≡ m → (n ≡ 0 → ⊥) → refused n ≡ unlessRefused m v
+refuses v {n} is h = refused-is n (accepted v) h ∙ ap (λ (k : ℕ). unlessRefused k v) is
+
+pub gives : {X : Type 0} (v : X) {n m : ℕ} → n ≡ m → n ≡ 0 → accepted v ≡ unlessRefused m v
+gives v is z = ap (λ (k : ℕ). unlessRefused k v) (sym z ∙ is)
 
 -- what is refused is refused with the number that was judged, which is not 0
 pub refused-with : {X : Type 0} (n k : ℕ) (v : X) → refused k ≡ unlessRefused n v → (n ≡ k) × (0 < k)

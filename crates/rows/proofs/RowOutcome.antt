@@ -10,13 +10,13 @@ use lib.Dec.{eqb}
 use lib.IntN.{ℤ}
 use lib.ListN.{length, drop}
 use Rattle.designs.specs.Designs.{Keeps, KeepsBit}
-use Rattle.designs.specs.Outcomes.{accepted, refused, first, unlessRefused}
+use Rattle.designs.specs.Outcomes.{accepted, refused, first}
 use Rattle.designs.specs.Products.{designOf, isDesign, takesSetting}
 use Rattle.designs.specs.Rows.{Report, report, residues}
 use Rattle.designs.specs.Scoring.{rowRefusals, rowWidth, rowRefusal, rowOutcome, rowWritten, writtenUnless}
 use Rattle.designs.specs.Demand.{Demand}
 use Rattle.designs.proofs.Demand.{demand}
-use Rattle.designs.proofs.Refusals.{none, refused-is}
+use Rattle.designs.proofs.Refusals.{none, refuses, gives}
 use Rattle.designs.proofs.Settings.{by-design, keeps}
 use Rattle.patterns.specs.Patterns.{clamped}
 use Rattle.rows.specs.Answers.{reportOf, Ready, Scoring, Small, Summed}
@@ -56,7 +56,7 @@ module _ (design setting : ℕ) (ws fs before : List ℤ) where
   unfolding rowOutcome rowWritten rowRefusal
   refuse n e h =
       record {
-        outcome = refused-is n (accepted (report (designOf design setting) ws fs)) h ∙ ap (λ (k : ℕ). unlessRefused k (report (designOf design setting) ws fs)) e;
+        outcome = refuses (report (designOf design setting) ws fs) e h;
         written = kept n h ∙ ap (λ (k : ℕ). writtenUnless k (residues (designOf design setting) ws fs) before) e;
         demand = λ r p. absurd (clash r p);
         small = λ r p. absurd (clash r p);
@@ -74,7 +74,7 @@ module _ (design setting : ℕ) (ws fs before : List ℤ) where
   unfolding rowOutcome rowWritten rowRefusal
   score after r e sums =
       record {
-        outcome = ap accepted (sums .is) ∙ ap (λ (k : ℕ). unlessRefused k (report (designOf design setting) ws fs)) (sym e);
+        outcome = ap accepted (sums .is) ∙ gives (report (designOf design setting) ws fs) (sym e) refl;
         written =
             sums .written ∙ ap (λ (k : ℕ). residues (designOf design setting) ws fs ++ drop k before) (sym count)
             ∙ ap (λ (k : ℕ). writtenUnless k (residues (designOf design setting) ws fs) before) (sym e);
