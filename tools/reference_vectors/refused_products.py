@@ -79,11 +79,15 @@ def refused_cases():
         yield from outside_operand_cases(kind)
 
 
-def order_pair(kind, first_outside, second_outside):
-    """Two operands, each of which is inside every width or outside all of them."""
+def order_pairs(kind, first_outside, second_outside):
+    """Operands of which each is inside every width or, by little or by much, outside all."""
     inside = plain_pairs(kind)[0]
-    outside = (MAX_U64, 2**32) if kind == UNSIGNED else (-(2**31) - 1, MAX_I64)
-    return (outside if first_outside else inside)[0], (outside if second_outside else inside)[1]
+    if kind == UNSIGNED:
+        outside = [(2**32, MAX_U64), (MAX_U64, 2**32)]
+    else:
+        outside = [(MIN_I64, 2**31), (-(2**31) - 1, MAX_I64)]
+    pairs = [(a if first_outside else inside[0], b if second_outside else inside[1]) for a, b in outside]
+    return pairs if first_outside or second_outside else pairs[:1]
 
 
 def refusal_sets():
@@ -95,14 +99,15 @@ def refusal_sets():
 def order_cases():
     """Pairs of the refusals that apply and an input to which they apply."""
     for kind, applying in itertools.product(PRODUCT_KINDS, refusal_sets()):
-        a, b = order_pair(
+        pairs = order_pairs(
             kind,
             refusals.FIRST_OPERAND_OUTSIDE_WIDTH in applying,
             refusals.SECOND_OPERAND_OUTSIDE_WIDTH in applying,
         )
         for design in order_designs(refusals.UNKNOWN_DESIGN in applying):
-            for width, setting in itertools.product(
+            for width, setting, (a, b) in itertools.product(
                 order_widths(refusals.UNKNOWN_WIDTH in applying),
                 order_settings(design, refusals.SETTING_OUT_OF_RANGE in applying),
+                pairs,
             ):
                 yield applying, ProductInput(kind, design, width, setting, a, b)
