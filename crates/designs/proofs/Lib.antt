@@ -1,4 +1,5 @@
 pub mod Cases
+pub mod Lists
 pub mod Refusals
 pub mod Settings
 pub mod Outside
@@ -11,6 +12,7 @@ pub mod Nearest
 pub mod Staged
 pub mod Truncated
 pub mod Widths
+pub mod Inside
 pub mod Squares
 pub mod Distance
 pub mod Triples
@@ -18,6 +20,7 @@ pub mod MitchellBound
 pub mod NearestBound
 pub mod TruncatedBound
 pub mod Sizes
+pub mod Accepted
 pub mod RowSums
 pub mod Demand
 pub mod Prefixes

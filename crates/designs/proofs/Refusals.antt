@@ -4,12 +4,13 @@
 use mathlib.Core.Path.{_≡_, refl, sym, ap, _∙_}
 use Prim.Native.Nat.{ℕ, zero, suc, _<_}
 use native.Mathlib.Omega.{arith}
-use mathlib.Core.Bool.{Bool, true, false, cond, _&&_}
-use mathlib.Core.List.{List, [], _∷_, _++_}
+use mathlib.Core.Bool.{Bool, true, false, cond}
+use mathlib.Core.List.{List, [], _∷_, _++_, map}
 use lib.Dec.{T, ltb}
 use lib.Ieee.Fits.{and-l, and-r}
 use Rattle.designs.specs.Outcomes.{Outcome, accepted, refused, Refusal, _when_, first, otherwise, unlessRefused}
 use Rattle.designs.proofs.Cases.{by-bool}
+use Rattle.designs.proofs.Lists.{every}
 
 -- whether the refusal at a place of a list applies
 abbrev pub test : List Refusal → ℕ → Bool
@@ -17,14 +18,12 @@ test [] i = false
 test (r ∷ rs) zero = r .applies
 test (r ∷ rs) (suc i) = test rs i
 
--- a test of every number of a list, which is computed where the numbers are known
-abbrev pub every : (ℕ → Bool) → List Refusal → Bool
-every p [] = true
-every p (r ∷ rs) = p (r .number) && every p rs
+abbrev pub numbers : List Refusal → List ℕ
+numbers rs = map (λ r. r .number) rs
 
 -- no number is 0, which stands for no refusal
 abbrev pub Numbered : List Refusal → Type 0
-Numbered rs = T (every (ltb 0) rs)
+Numbered rs = T (every (ltb 0) (numbers rs))
 
 clash : {X : Type 0} (n : ℕ) → T (ltb 0 n) → n ≡ 0 → X
 clash zero t e = absurd t
@@ -32,10 +31,10 @@ clash (suc n) t e = absurd (omega arith)
 
 module _ (r : Refusal) (rs : List Refusal) (numbered : Numbered (r ∷ rs)) where
   positive : T (ltb 0 (r .number))
-  positive = and-l (ltb 0 (r .number)) (every (ltb 0) rs) numbered
+  positive = and-l (ltb 0 (r .number)) (every (ltb 0) (numbers rs)) numbered
 
   later : Numbered rs
-  later = and-r (ltb 0 (r .number)) (every (ltb 0) rs) numbered
+  later = and-r (ltb 0 (r .number)) (every (ltb 0) (numbers rs)) numbered
 
 -- the first is 0, so none applies
 pub none : (rs : List Refusal) → Numbered rs → first rs ≡ 0 → (i : ℕ) → test rs i ≡ false
@@ -49,12 +48,12 @@ none (r ∷ rs) h e i = go (r .applies) e (none rs (later r rs h)) i
     go false e rest (suc i) = rest e i
 
 -- the first is among the numbers, so what holds of them and of 0 holds of it
-pub among : (p : ℕ → Bool) (rs : List Refusal) → T (p 0) → T (every p rs) → T (p (first rs))
+pub among : (p : ℕ → Bool) (rs : List Refusal) → T (p 0) → T (every p (numbers rs)) → T (p (first rs))
 unfolding first
 among p [] z h = z
 among p (r ∷ rs) z h =
-    by-bool (λ (b : Bool). T (p (cond b (r .number) (first rs)))) (r .applies) (λ _. and-l (p (r .number)) (every p rs) h)
-    (λ _. among p rs z (and-r (p (r .number)) (every p rs) h))
+    by-bool (λ (b : Bool). T (p (cond b (r .number) (first rs)))) (r .applies) (λ _. and-l (p (r .number)) (every p (numbers rs)) h)
+    (λ _. among p rs z (and-r (p (r .number)) (every p (numbers rs)) h))
 
 -- a list in two parts: n is the first of the first part, which is 0 or not
 pub of-first : (xs ys : List Refusal) {n : ℕ} → n ≡ first xs → (n ≡ 0 → ⊥) → n ≡ first (xs ++ ys)
@@ -87,6 +86,11 @@ gives v is z = ap (λ (k : ℕ). unlessRefused k v) (sym z ∙ is)
 pub refused-with : {X : Type 0} (n k : ℕ) (v : X) → refused k ≡ unlessRefused n v → (n ≡ k) × (0 < k)
 refused-with zero k v e = let z : _≡_ {A = ℕ} 0 1 = cc in absurd (omega arith)
 refused-with (suc n) k v e = let z : suc n ≡ k = cc in (z, omega arith)
+
+-- and where a value is given, that number is 0 and the value is the one that was meant
+pub accepted-with : {X : Type 0} (n : ℕ) {v x : X} → accepted x ≡ unlessRefused n v → (n ≡ 0) × (x ≡ v)
+accepted-with zero e = (refl, cc)
+accepted-with (suc n) {v} e = let z : _≡_ {A = ℕ} 0 1 = cc in absurd (omega arith)
 
 -- a claim on an outcome, from the claim on each refusal of a list and on what is given where none applies
 pub by-outcome : {X : Type 0} (P : Outcome X → Type 0) (rs : List Refusal) {o : Outcome X} → Numbered rs

@@ -1,23 +1,22 @@
--- What a setting that is accepted gives: a width of the list has at most 32 bits, and at such a width design 4 keeps at least one bit
--- and at most 31. Both go by the tests that were passed. Assumes nothing.
+-- What a setting that is accepted gives: a width has 1 to 32 bits, which is computed over the whole list of widths, and at such a width
+-- design 4 keeps at least one bit and at most 31, by the tests that were passed. Assumes nothing.
 use mathlib.Core.Path.{_≡_}
 use Prim.Native.Nat.{ℕ, _-_, _≤_, _<_}
 use native.Mathlib.Omega.{arith}
-use mathlib.Core.Bool.{true}
+use mathlib.Core.Bool.{true, _&&_}
 use borrow.Author.Tests.{lt-leb, leb-true, eqb-true, eqb-false}
-use lib.Dec.{leb, eqb}
+use lib.Dec.{leb, eqb, leb→le}
+use lib.Ieee.Fits.{and-l, and-r}
 use Rattle.designs.specs.Designs.{Design, KeepsBit, KeepsAtMost, mitchell, nearest, staged, truncated}
-use Rattle.designs.specs.Products.{isDesign, isWidth, designOf, takesSetting}
+use Rattle.designs.specs.Products.{isDesign, widths, isWidth, designOf, takesSetting}
 use Rattle.designs.proofs.Cases.{both, by-bool}
+use Rattle.designs.proofs.Lists.{of-found}
 
 pub width-bounds : (width : ℕ) → isWidth width ≡ true → (1 ≤ width) × (width ≤ 32)
+unfolding isWidth
 width-bounds width e =
-    by-bool (λ _. (1 ≤ width) × (width ≤ 32)) (eqb width 8) (λ h. at 8 (eqb-true width 8 h) (omega arith) (omega arith))
-    (λ h. by-bool (λ _. (1 ≤ width) × (width ≤ 32)) (eqb width 16) (λ g. at 16 (eqb-true width 16 g) (omega arith) (omega arith))
-    (λ g. at 32 (eqb-true width 32 (simp (h, g) at e)) (omega arith) (omega arith)))
-  where
-    at : (n : ℕ) → width ≡ n → 1 ≤ n → n ≤ 32 → (1 ≤ width) × (width ≤ 32)
-    at n e h g = (omega arith, omega arith)
+    let range = of-found (λ (w : ℕ). leb 1 w && leb w 32) widths width tt e in
+    (leb→le 1 width (and-l (leb 1 width) (leb width 32) range), leb→le width 32 (and-r (leb 1 width) (leb width 32) range))
 
 module _ (design width setting : ℕ) (d : isDesign design ≡ true) (t : takesSetting design width setting ≡ true) where
   pub known : 0 < design

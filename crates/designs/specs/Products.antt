@@ -1,6 +1,6 @@
 -- What a product gives for any input (docs/SCOPE.md, "Setting" and "Product, unsigned or signed"). Definitions only.
 use Prim.Native.Nat.{ℕ, suc, _-_, _^_}
-use mathlib.Core.Bool.{Bool, not, _&&_, _||_, cond}
+use mathlib.Core.Bool.{Bool, false, not, _&&_, _||_, cond}
 use mathlib.Core.List.{List, [], _∷_, _++_}
 use lib.Dec.{leb, eqb}
 use lib.IntN.{ℤ, pos, negsuc}
@@ -12,9 +12,17 @@ use Rattle.designs.specs.Outcomes.{Outcome, Refusal, _when_, first, unle
 abbrev pub isDesign : ℕ → Bool
 isDesign n = leb 1 n && leb n 4
 
--- The width is 8, 16 or 32 bits.
-abbrev pub isWidth : ℕ → Bool
-isWidth w = eqb w 8 || (eqb w 16 || eqb w 32)
+-- The widths, in bits, and whether a number is one of them.
+abbrev pub widths : List ℕ
+widths = 8 ∷ 12 ∷ 16 ∷ 32 ∷ []
+
+infix 70 _isIn_
+abbrev pub _isIn_ : ℕ → List ℕ → Bool
+n isIn [] = false
+n isIn (m ∷ ms) = eqb n m || n isIn ms
+
+unfoldable pub isWidth : ℕ → Bool
+isWidth w = w isIn widths
 
 -- Design n with a setting. Only the numbers 1 to 4 reach a product.
 abbrev pub designOf : ℕ → ℕ → Design
@@ -44,6 +52,7 @@ secondOutsideWidth b-inside = 20 when not b-inside
 -- In order: those of the numbers beside the operands, and those of the operands, of which is known whether each is inside the width. So 4
 -- is given wherever the first operand is outside, and 20 where only the second is.
 unfoldable pub settingRefusals : ℕ → ℕ → ℕ → List Refusal
+unfolding isWidth
 settingRefusals design width setting = unknownDesign design ∷ unknownWidth width ∷ settingOutOfRange design width setting ∷ []
 
 unfoldable pub operandRefusals : Bool → Bool → List Refusal

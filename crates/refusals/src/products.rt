@@ -12,16 +12,16 @@ pub fn is_design(design: u32) -> bool
     design <= 4
 }
 
+// The widths, each a bit at its place.
+const WIDTHS: u64 = (1 << 8) | (1 << 12) | (1 << 16) | (1 << 32);
+
 pub fn is_width(width: u32) -> bool
     ensures { λ r. ⌜ r ≡ isWidth width ⌝ }
 {
-    if width == 8 {
-        return true;
+    if 64 <= width {
+        return false;
     }
-    if width == 16 {
-        return true;
-    }
-    width == 32
+    (WIDTHS >> width) & 1 == 1
 }
 
 // Whether a design takes a setting at a width.

@@ -14,7 +14,8 @@ use Rattle.designs.specs.Outcomes.{Outcome, accepted, refused, Refusal, first, 
 use Rattle.designs.specs.Products.{designOf, refusals, insideSigned, signedOutcome}
 use Rattle.designs.specs.Signs.{negative, signedProduct}
 use Rattle.designs.proofs.Cases.{by-bool, by-lt}
-use Rattle.designs.proofs.Refusals.{Numbered, every, among, by-outcome}
+use Rattle.designs.proofs.Lists.{every}
+use Rattle.designs.proofs.Refusals.{Numbered, numbers, among, by-outcome}
 use Rattle.designs.proofs.Sizes.{size-sign}
 use Rattle.designs.proofs.Widths.{product-lt}
 use Rattle.formats.specs.Formats.{binary32, pattern, isZero}
@@ -61,7 +62,7 @@ abbrev twoDigits : ℕ → Bool
 twoDigits n = ltb n 100
 
 abbrev Plain : List Refusal → Type 0
-Plain rs = T (every twoDigits rs)
+Plain rs = T (every twoDigits (numbers rs))
 
 pub refusal-length : (rs : List Refusal) → Plain rs → (n : ℕ) → first rs ≡ n → length (decimal n) ≤ refusalMost
 refusal-length rs plain n e = decimal-length 1 n (ltb→lt n 100 (subst (λ (k : ℕ). T (twoDigits k)) e (among twoDigits rs tt plain)))

@@ -1,6 +1,6 @@
 -- `signed_product` judges as `refusals` does, and an accepted input is one whose product fits with its sign. Assumes nothing.
 use borrow.Author.Needs.{needs}
-use mathlib.Core.Path.{ap, ap₂, _∙_}
+use mathlib.Core.Path.{sym, ap, ap₂, _∙_}
 use Prim.Native.Nat.{ℕ}
 use mathlib.Core.Bool.{Bool}
 use lib.IntN.{ℤ}
@@ -9,12 +9,12 @@ use Rattle.designs.specs.Designs.{Design}
 use Rattle.designs.specs.Outcomes.{accepted, first}
 use Rattle.designs.specs.Products.{designOf, insideSigned, operandRefusals, signedOutcome}
 use Rattle.designs.specs.Signs.{signedProduct}
+use Rattle.designs.proofs.Accepted.{Settled, settled}
 use Rattle.designs.proofs.Refusals.{refuses, gives}
-use Rattle.designs.proofs.Widths.{size-lt}
 use Rattle.kernels.proofs.Served.{serves}
 use Rattle.signs.proofs.Integers.{read-back}
-use Rattle.products.proofs.InsideWidth.{signed-size}
-use Rattle.products.proofs.Judgement.{Settled, Judged, by-setting, by-operands, settled}
+use Rattle.products.proofs.InsideWidth.{signable}
+use Rattle.products.proofs.Judgement.{Judged, by-setting, by-operands}
 use Rattle.products.proofs.signed_product.Statement.{statement}
 use Rattle.products.proofs.signed_product.Tie as tie
 
@@ -43,7 +43,7 @@ judged c =
     (c .before .inside-signed2 .ensures ∙ ap inside (toZ-ofZ (start c .fits .b))))
 
 accepts : (c : tie.Else2) → on Settled (start (c .before))
-accepts c = settled _ _ _ _ _ (judged (c .before)) (c .if2 .left)
+accepts c = settled _ _ _ _ _ (sym (judged (c .before)) ∙ c .if2 .left)
 
 returns : tie.Need-returns
 unfolding signedOutcome
@@ -57,10 +57,8 @@ signed-of-requires : tie.Need-signed-of-requires
 signed-of-requires c κs =
     let s = start (c .before) in
     let passed = accepts c in
-    let a-size = signed-size (s .args .width) (s .args .a) (passed .high) (passed .a-inside) in
-    let b-size = signed-size (s .args .width) (s .args .b) (passed .high) (passed .b-inside) in
     rw (toZ-ofZ (s .fits .a), toZ-ofZ (s .fits .b), serves (designOf (s .args .design) (s .args .setting)) (passed .few))
-    (record { first = a-size; second = b-size; fits = size-lt _ (passed .keeps) 31 _ _ a-size b-size })
+    (signable (s .args .width) (passed .high) (passed .low) _ (passed .keeps) (s .args .a) (s .args .b) (passed .a-inside) (passed .b-inside))
 
 returns-3 : tie.Need-returns-3
 unfolding signedOutcome

@@ -1,15 +1,16 @@
 -- `unsigned_product` judges as `refusals` does, and an accepted input is within what the kernels serve. Assumes nothing.
 use borrow.Author.Needs.{needs}
-use mathlib.Core.Path.{ap, ap₂, _∙_}
+use mathlib.Core.Path.{sym, ap, ap₂, _∙_}
 use Prim.Native.Nat.{ℕ}
 use mathlib.Core.Bool.{Bool}
 use Rattle.designs.specs.Designs.{Design, product}
 use Rattle.designs.specs.Outcomes.{accepted, first}
 use Rattle.designs.specs.Products.{designOf, insideUnsigned, operandRefusals, unsignedOutcome}
+use Rattle.designs.proofs.Accepted.{Settled, settled}
 use Rattle.designs.proofs.Refusals.{refuses, gives}
 use Rattle.kernels.proofs.Served.{serves}
-use Rattle.products.proofs.InsideWidth.{unsigned-size}
-use Rattle.products.proofs.Judgement.{Settled, Judged, by-setting, by-operands, settled}
+use Rattle.products.proofs.InsideWidth.{unsigned-fits}
+use Rattle.products.proofs.Judgement.{Judged, by-setting, by-operands}
 use Rattle.products.proofs.unsigned_product.Statement.{statement}
 use Rattle.products.proofs.unsigned_product.Tie as tie
 
@@ -35,7 +36,7 @@ judged c =
     (c .of-operands .ensures ∙ ap₂ (λ (x y : Bool). first (operandRefusals x y)) (c .before .before .inside-unsigned .ensures) (c .before .inside-unsigned2 .ensures))
 
 accepts : (c : tie.Else2) → on Settled (start (c .before))
-accepts c = settled _ _ _ _ _ (judged (c .before)) (c .if2 .left)
+accepts c = settled _ _ _ _ _ (sym (judged (c .before)) ∙ c .if2 .left)
 
 returns : tie.Need-returns
 unfolding unsignedOutcome
@@ -46,10 +47,10 @@ unfolding unsignedOutcome
 returns-2 c = refuses (value (start (c .before))) (judged (c .before)) (c .if2 .taken)
 
 cast-product-of : tie.Need-cast-product-of
-cast-product-of c = record { fits = unsigned-size _ _ (accepts c .high) (accepts c .a-inside) }
+cast-product-of c = record { fits = unsigned-fits _ (accepts c .high) _ (accepts c .a-inside) }
 
 cast-product-of-2 : tie.Need-cast-product-of-2
-cast-product-of-2 c = record { fits = unsigned-size _ _ (accepts c .high) (accepts c .b-inside) }
+cast-product-of-2 c = record { fits = unsigned-fits _ (accepts c .high) _ (accepts c .b-inside) }
 
 returns-3 : tie.Need-returns-3
 unfolding unsignedOutcome

@@ -1,16 +1,16 @@
--- `is_width` makes the tests of `isWidth`. Assumes nothing.
-use borrow.Author.Tests.{eq-eqb, ne-eqb}
+-- `is_width` looks the width up among the bits of `WIDTHS`. Assumes nothing.
+use borrow.Author.Needs.{needs}
+use Rattle.designs.specs.Products.{isWidth}
+use Rattle.refusals.proofs.WidthBits.{within, beyond}
 use Rattle.refusals.proofs.products.is_width.Statement.{statement}
 use Rattle.refusals.proofs.products.is_width.Tie as tie
 
 returns : tie.Need-returns
-returns c = simp (eq-eqb _ _ (c .if1 .taken))
+returns c = beyond _ (c .if1 .taken)
 
 returns-2 : tie.Need-returns-2
-returns-2 c = simp (ne-eqb _ _ (c .before .if1 .left), eq-eqb _ _ (c .if2 .taken))
-
-returns-3 : tie.Need-returns-3
-returns-3 c = simp (ne-eqb _ _ (c .before .if1 .left), ne-eqb _ _ (c .if2 .left))
+unfolding isWidth
+returns-2 c = within _ _ tt (c .if1 .left)
 
 pub is-width-spec : {M : Type 1} → statement M
-is-width-spec = tie.close (tie.spec returns returns-2 returns-3)
+is-width-spec = tie.close (tie.spec returns (λ c. search needs) returns-2)
