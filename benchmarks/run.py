@@ -29,7 +29,8 @@ def titled(tables):
 
 def operation_tables(program):
     settings = {1: 0, 2: 0, 3: 2, 4: 6}
-    products = [(sign, design, width) for sign in ('unsigned', 'signed') for design in settings for width in (8, 16, 32)]
+    widths = 8, 12, 16, 32
+    products = [(sign, design, width) for sign in ('unsigned', 'signed') for design in settings for width in widths]
     others = {'single normal': 'single_product, accepted', 'single zero': 'single_product, a zero operand',
               'single infinite': 'single_product, refused (8)', 'table': 'table_product, all 65,536 pairs',
               'scale accepted': 'scale, shifts 0 to 40', 'scale refused': 'scale, refused (15)',
@@ -49,9 +50,9 @@ def operation_tables(program):
     body = []
     for sign in ('unsigned', 'signed'):
         for design, setting in settings.items():
-            figures = (number(each[f'{sign} {design} {width} {setting}']) for width in (8, 16, 32))
+            figures = (number(each[f'{sign} {design} {width} {setting}']) for width in widths)
             body.append([f'product_{sign}, design {DESIGNS[design, setting]}', *figures])
-    product_table = ['operation', 'width 8', 'width 16', 'width 32'], body
+    product_table = ['operation', *(f'width {width}' for width in widths)], body
     other_table = ['operation', 'instructions a call'], [[title, number(each[line])] for line, title in others.items()]
     long = number(found['transcript long'])
     transcript_table = ['transcript', 'a byte', 'a record'], [

@@ -76,7 +76,7 @@ const char *highvane_refusal_text(uint32_t refusal) {
     switch (refusal) {
     case HIGHVANE_ACCEPTED: return "accepted";
     case HIGHVANE_UNKNOWN_DESIGN: return "the design is not 1 to 4";
-    case HIGHVANE_UNKNOWN_WIDTH: return "the width is not 8, 16 or 32";
+    case HIGHVANE_UNKNOWN_WIDTH: return "the width is not 8, 12, 16 or 32";
     case HIGHVANE_SETTING_OUT_OF_RANGE: return "the setting is not one that the design takes at this width";
     case HIGHVANE_FIRST_OPERAND_OUTSIDE_WIDTH: return "the first operand is outside the width";
     case HIGHVANE_LENGTHS_DIFFER: return "the weights and the frame differ in length";
@@ -111,7 +111,7 @@ typedef struct { double score, magnitude_sum; uint32_t refusal; } highvane_scale
 typedef struct { float value; uint32_t refusal; } highvane_single;
 
 /*
- * The design's product of two operands of `width` bits, w: 8, 16 or 32. Operands are 0 to 2^w - 1.
+ * The design's product of two operands of `width` bits, w: 8, 12, 16 or 32. Operands are 0 to 2^w - 1.
  * Refusals: 1, 2, 3, 4, 20.
  */
 highvane_unsigned highvane_product_unsigned(uint32_t design, uint32_t width, uint32_t setting, uint64_t a, uint64_t b);

@@ -76,7 +76,7 @@ DESIGNS = {
     TRUNCATED: Design(truncated, lambda width: range(1, width)),
 }
 
-WIDTHS = (8, 16, 32)
+WIDTHS = (8, 12, 16, 32)
 
 
 def settings_accepted(design, width):

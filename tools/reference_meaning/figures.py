@@ -11,6 +11,8 @@ PRODUCTS = (
     (ProductInput(UNSIGNED, 1, 8, 0, 5, 6), 28, 2),
     (ProductInput(UNSIGNED, 1, 8, 0, 192, 192), 32768, 4096),
     (ProductInput(UNSIGNED, 1, 8, 0, 255, 255), 65024, 1),
+    (ProductInput(UNSIGNED, 1, 12, 0, 4095, 4095), 16769024, 1),
+    (ProductInput(SIGNED, 1, 12, 0, -2048, -2048), 4194304, 0),
     (ProductInput(UNSIGNED, 2, 8, 0, 5, 6), 32, -2),
     (ProductInput(UNSIGNED, 2, 8, 0, 191, 192), 40704, -4032),
     (ProductInput(SIGNED, 2, 8, 0, -5, 6), -32, 2),
@@ -18,10 +20,12 @@ PRODUCTS = (
     (ProductInput(UNSIGNED, 3, 8, 1, 7, 7), 40, 9),
     (ProductInput(UNSIGNED, 3, 8, 2, 7, 7), 48, 1),
     (ProductInput(UNSIGNED, 3, 8, 3, 7, 7), 49, 0),
+    (ProductInput(UNSIGNED, 3, 12, 12, 4095, 4095), 16769025, 0),
     (ProductInput(UNSIGNED, 4, 8, 4, 3, 3), 8, 1),
     (ProductInput(UNSIGNED, 4, 8, 4, 16, 16), 272, -16),
     (ProductInput(UNSIGNED, 4, 8, 4, 255, 255), 63488, 1537),
     (ProductInput(UNSIGNED, 4, 8, 1, 1, 1), 1, 0),
+    (ProductInput(UNSIGNED, 4, 12, 11, 3, 3), 8, 1),
 )
 
 # The sentences below that table on settings and operands: the input and its refusal.
@@ -46,6 +50,20 @@ JUDGED_PRODUCTS = (
     (ProductInput(UNSIGNED, 1, 8, 1, 256, 5), 3),
     (ProductInput(UNSIGNED, 1, 8, 1, 5, 256), 3),
     (ProductInput(UNSIGNED, 1, 8, 1, 256, 256), 3),
+    (ProductInput(UNSIGNED, 3, 12, 13, 7, 7), 3),
+    (ProductInput(SIGNED, 3, 12, 13, 7, 7), 3),
+    (ProductInput(UNSIGNED, 4, 12, 12, 7, 7), 3),
+    (ProductInput(SIGNED, 4, 12, 12, 7, 7), 3),
+    (ProductInput(UNSIGNED, 1, 12, 0, 4096, 5), 4),
+    (ProductInput(UNSIGNED, 1, 12, 0, 5, 4096), 20),
+    (ProductInput(SIGNED, 1, 12, 0, 2047, -2048), 0),
+    (ProductInput(SIGNED, 1, 12, 0, 2048, 5), 4),
+    (ProductInput(SIGNED, 1, 12, 0, 5, 2048), 20),
+    (ProductInput(SIGNED, 1, 12, 0, -2049, 5), 4),
+    (ProductInput(SIGNED, 1, 12, 0, 5, -2049), 20),
+    (ProductInput(UNSIGNED, 1, 10, 0, 5, 6), 2),
+    (ProductInput(UNSIGNED, 1, 11, 0, 5, 6), 2),
+    (ProductInput(UNSIGNED, 1, 13, 0, 5, 6), 2),
 )
 
 # The row with a star, by design 1, and its report.

@@ -3,7 +3,7 @@
 The operations are Highvane's, proved in Rattle and compiled into a shared object, which this package calls through ctypes. Each takes any
 input. It gives its result, or raises Refused with the first refusal that applies, and then has changed nothing that was lent to it.
 
-    unsigned_product, signed_product          a design's product at width 8, 16 or 32
+    unsigned_product, signed_product          a design's product at width 8, 12, 16 or 32
     table_product                             design 1's product of two bytes, by a table
     row_of, row_refusal                       a row, as a part of a weight store
     score_row                                 the score of a row, its exact error, and the residue of each pair

@@ -5,7 +5,7 @@ from .refusals import judged
 
 
 def unsigned_product(design, width, setting, a, b):
-    """The design's product of two numbers of `width` bits, 8, 16 or 32. It refuses, in this order: 1, 2, 3, 4, 20.
+    """The design's product of two numbers of `width` bits, 8, 12, 16 or 32. It refuses, in this order: 1, 2, 3, 4, 20.
 
     >>> from highvane import Design
     >>> unsigned_product(Design.MITCHELL, 8, 0, 5, 6)

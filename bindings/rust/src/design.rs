@@ -109,7 +109,7 @@ impl Design {
 /// ```
 /// use highvane::{Design, Refusal, Width, signed_product};
 ///
-/// assert_eq!(signed_product(Design::Mitchell, Width::Bits16, 128, 1), Ok(128));
+/// assert_eq!(signed_product(Design::Mitchell, Width::Bits12, 128, 1), Ok(128));
 /// assert_eq!(
 ///     signed_product(Design::Mitchell, Width::Bits8, 128, 1),
 ///     Err(Refusal::FirstOperandOutsideWidth)
@@ -120,6 +120,8 @@ impl Design {
 pub enum Width {
     /// 8 bits.
     Bits8,
+    /// 12 bits.
+    Bits12,
     /// 16 bits, the width of a row.
     Bits16,
     /// 32 bits.
@@ -146,6 +148,7 @@ impl Width {
     pub const fn from_bits(bits: u32) -> Width {
         match bits {
             8 => Width::Bits8,
+            12 => Width::Bits12,
             16 => Width::Bits16,
             32 => Width::Bits32,
             bits => Width::Unlisted { bits },
@@ -164,6 +167,7 @@ impl Width {
     pub const fn bits(self) -> u32 {
         match self {
             Width::Bits8 => 8,
+            Width::Bits12 => 12,
             Width::Bits16 => 16,
             Width::Bits32 => 32,
             Width::Unlisted { bits } => bits,

@@ -5,7 +5,7 @@
 //!
 //! | operation | gives |
 //! |---|---|
-//! | [`unsigned_product`], [`signed_product`] | a design's product at width 8, 16 or 32 |
+//! | [`unsigned_product`], [`signed_product`] | a design's product at width 8, 12, 16 or 32 |
 //! | [`table_product`] | design 1's product of two bytes, by a table |
 //! | [`row_of`] | a row, as a part of a weight store |
 //! | [`score_row`] | the score of a row, its exact error, and the residue of each pair |

@@ -16,14 +16,19 @@ use crate::row_vectors::is_due;
 use crate::tally::Tally;
 
 // In their order: the table's rows; that design 3 at width 8 takes 8 stages, and neither 0 nor 9; that width 8 takes −128, and which of
-// two operands it does not take, 128 signed or 256 unsigned, also beside a wrong setting; the starred row; that 4,096 pairs are scored, and
-// 4,097 not; that −20 over 2^3 is handed out as −2.5, and T 39 then as 4.875; the singles.
+// two operands it does not take, 128 signed or 256 unsigned, also beside a wrong setting; the limits of width 12, and the numbers beside it
+// that are no widths; the starred row; that 4,096 pairs are scored, and 4,097 not; that −20 over 2^3 is handed out as −2.5, and T 39 then as
+// 4.875; the singles.
 pub fn run() -> Tally {
     lines::count(
         b"q 1 8 0 255 0 65024 1
+q 1 12 0 4095 0 16769024 1
+s 1 12 0 -2048 -2048 0 4194304
 q 2 32 0 4294967295 0 18446744065119617024 1
+q 3 12 12 4095 0 16769025 0
 q 4 8 4 255 0 63488 1537
 q 4 8 1 1 0 1 0
+q 4 12 11 3 0 8 1
 u 3 8 8 7 7 0 49
 u 3 8 0 7 7 3 0
 u 3 8 9 7 7 3 0
@@ -40,6 +45,20 @@ s 1 8 1 128 128 3 0
 u 1 8 1 256 5 3 0
 u 1 8 1 5 256 3 0
 u 1 8 1 256 256 3 0
+u 3 12 13 7 7 3 0
+s 3 12 13 7 7 3 0
+u 4 12 12 7 7 3 0
+s 4 12 12 7 7 3 0
+u 1 12 0 4096 5 4 0
+u 1 12 0 5 4096 20 0
+s 1 12 0 2047 -2048 0 -4192256
+s 1 12 0 2048 5 4 0
+s 1 12 0 5 2048 20 0
+s 1 12 0 -2049 5 4 0
+s 1 12 0 5 -2049 20 0
+u 1 10 0 5 6 2 0
+u 1 11 0 5 6 2 0
+u 1 13 0 5 6 2 0
 r 1 0 3 3 -5 0 3 3 6 7 3 0 -20 -21 -1 39 2 3 1 -2 0
 n 4096 0 4096 4096 0 4096 4096 4096
 n 4097 6 0 0 0 0 0 0

@@ -10,11 +10,13 @@ use crate::tally::Tally;
 /// Signed or not; design, width and setting; operands; product and residue.
 type Product = (bool, (u32, u32, u32), (i128, i128), (i128, i128));
 
-const PRODUCTS: [Product; 15] = [
+const PRODUCTS: [Product; 19] = [
     (false, (1, 8, 0), (3, 3), (8, 1)),
     (false, (1, 8, 0), (5, 6), (28, 2)),
     (false, (1, 8, 0), (192, 192), (32768, 4096)),
     (false, (1, 8, 0), (255, 255), (65024, 1)),
+    (false, (1, 12, 0), (4095, 4095), (16769024, 1)),
+    (true, (1, 12, 0), (-2048, -2048), (4194304, 0)),
     (false, (2, 8, 0), (5, 6), (32, -2)),
     (false, (2, 8, 0), (191, 192), (40704, -4032)),
     (true, (2, 8, 0), (-5, 6), (-32, 2)),
@@ -22,17 +24,19 @@ const PRODUCTS: [Product; 15] = [
     (false, (3, 8, 1), (7, 7), (40, 9)),
     (false, (3, 8, 2), (7, 7), (48, 1)),
     (false, (3, 8, 3), (7, 7), (49, 0)),
+    (false, (3, 12, 12), (4095, 4095), (16769025, 0)),
     (false, (4, 8, 4), (3, 3), (8, 1)),
     (false, (4, 8, 4), (16, 16), (272, -16)),
     (false, (4, 8, 4), (255, 255), (63488, 1537)),
     (false, (4, 8, 1), (1, 1), (1, 0)),
+    (false, (4, 12, 11), (3, 3), (8, 1)),
 ];
 
 /// Signed or not; design, width and setting; operands; outcome.
 type Judged = (bool, (u32, u32, u32), (i128, i128), Result<i128, u32>);
 
 /// Settings and operands at their limits.
-const JUDGED: [Judged; 16] = [
+const JUDGED: [Judged; 30] = [
     (false, (3, 8, 8), (7, 7), Ok(49)),
     (false, (3, 8, 0), (7, 7), Err(3)),
     (false, (3, 8, 9), (7, 7), Err(3)),
@@ -49,6 +53,20 @@ const JUDGED: [Judged; 16] = [
     (false, (1, 8, 1), (256, 5), Err(3)),
     (false, (1, 8, 1), (5, 256), Err(3)),
     (false, (1, 8, 1), (256, 256), Err(3)),
+    (false, (3, 12, 13), (7, 7), Err(3)),
+    (true, (3, 12, 13), (7, 7), Err(3)),
+    (false, (4, 12, 12), (7, 7), Err(3)),
+    (true, (4, 12, 12), (7, 7), Err(3)),
+    (false, (1, 12, 0), (4096, 5), Err(4)),
+    (false, (1, 12, 0), (5, 4096), Err(20)),
+    (true, (1, 12, 0), (2047, -2048), Ok(-4192256)),
+    (true, (1, 12, 0), (2048, 5), Err(4)),
+    (true, (1, 12, 0), (5, 2048), Err(20)),
+    (true, (1, 12, 0), (-2049, 5), Err(4)),
+    (true, (1, 12, 0), (5, -2049), Err(20)),
+    (false, (1, 10, 0), (5, 6), Err(2)),
+    (false, (1, 11, 0), (5, 6), Err(2)),
+    (false, (1, 13, 0), (5, 6), Err(2)),
 ];
 
 const SINGLES: [(u32, u32, Result<u32, u32>); 4] = [

@@ -39,32 +39,49 @@ fn compare(signed: bool, numbers: (u32, u32, u32), (a, b): (i128, i128), tally: 
     }
 }
 
-/// All pairs of bytes by every design, with every setting that it takes, at every width.
-pub fn byte_pairs(_: &mut Random, tally: &mut Tally) {
+/// All pairs of operands of so many bits, unsigned and signed, by one design, width and setting.
+fn all_pairs(bits: u32, numbers: (u32, u32, u32), tally: &mut Tally) {
     for signed in [false, true] {
-        let (low, high) = products::range(signed, 8);
-        for width in [8, 16, 32] {
-            for design in 1..=4 {
-                for setting in (0..=width).filter(|&setting| products::takes(design, width, setting)) {
-                    for a in low..=high {
-                        for b in low..=high {
-                            compare(signed, (design, width, setting), (a, b), tally);
-                        }
-                    }
-                }
+        let (low, high) = products::range(signed, bits);
+        for a in low..=high {
+            for b in low..=high {
+                compare(signed, numbers, (a, b), tally);
             }
         }
     }
 }
 
-/// Every design, width and setting near the known ones, with operands inside and outside, so that each order of refusals arises.
+/// All pairs of bytes by every design, with every setting that it takes, at every width.
+pub fn byte_pairs(_: &mut Random, tally: &mut Tally) {
+    for width in products::WIDTHS {
+        for design in 1..=4 {
+            for setting in (0..=width).filter(|&setting| products::takes(design, width, setting)) {
+                all_pairs(8, (design, width, setting), tally);
+            }
+        }
+    }
+}
+
+/// All 2^24 pairs of operands of width 12 by a design with some of its settings.
+pub fn twelve_bit_pairs<const DESIGN: u32>(_: &mut Random, tally: &mut Tally) {
+    let settings: &[u32] = match DESIGN {
+        3 => &[1, 2, 12],
+        4 => &[1, 6, 11],
+        _ => &[0],
+    };
+    for &setting in settings {
+        all_pairs(12, (DESIGN, 12, setting), tally);
+    }
+}
+
+/// Every design, width and setting near the known ones, with operands on both sides of every limit, so that each order of refusals arises.
 pub fn numbers(_: &mut Random, tally: &mut Tally) {
-    const OPERANDS: [i128; 15] =
-        [0, 1, 3, 127, 128, 255, 256, 32_767, 32_768, 65_535, 65_536, 1 << 31, (1 << 32) - 1, 1 << 32, i64::MAX as i128];
+    let powers = products::WIDTHS.into_iter().flat_map(|width| [designs::power(width - 1), designs::power(width)]);
+    let operands: Vec<_> = powers.flat_map(|power| [power - 1, power]).chain([0, 1, 3, i128::from(i64::MAX)]).collect();
     for design in 0..=6 {
         for width in 0..=66 {
             for setting in 0..=66 {
-                for a in OPERANDS {
+                for &a in &operands {
                     for b in [5, a, 1 << 40] {
                         compare(false, (design, width, setting), (a, b), tally);
                         compare(true, (design, width, setting), (-a, b), tally);
@@ -82,7 +99,7 @@ pub fn seeded(random: &mut Random, tally: &mut Tally) {
         let (design, width) = (random.design(), random.width());
         let setting = random.setting(design, width);
         let signed = random.once_in(2);
-        let bits = if [8, 16, 32].contains(&width) { width } else { 16 };
+        let bits = if products::WIDTHS.contains(&width) { width } else { 16 };
         let operands = (random.operand(signed, bits), random.operand(signed, bits));
         compare(signed, (design, width, setting), operands, tally);
     }

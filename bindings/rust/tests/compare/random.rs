@@ -1,7 +1,7 @@
 //! Inputs from a seeded generator: numbers where the designs change their ways, and any others.
 
 use crate::meaning::designs::power;
-use crate::meaning::products::range;
+use crate::meaning::products::{WIDTHS, range};
 
 /// Splitmix64.
 pub struct Random(pub u64);
@@ -87,9 +87,9 @@ impl Random {
     /// A width's number of bits, mostly a known one.
     pub fn width(&mut self) -> u32 {
         match self.below(16) {
-            0 => self.pick(&[0, 1, 7, 9, 12, 15, 17, 24, 31, 33, 64, 128, 256, 264, 1 << 31, u32::MAX]),
+            0 => self.pick(&[0, 1, 7, 9, 10, 11, 13, 15, 17, 24, 31, 33, 64, 128, 256, 264, 1 << 31, u32::MAX]),
             1 => self.wild_number(),
-            _ => self.pick(&[8, 16, 32]),
+            _ => self.pick(&WIDTHS),
         }
     }
 

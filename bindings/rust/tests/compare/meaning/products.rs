@@ -2,6 +2,9 @@
 
 use super::designs::{self, power};
 
+/// The widths, in bits.
+pub const WIDTHS: [u32; 4] = [8, 12, 16, 32];
+
 /// Whether the design takes the setting at a width.
 pub fn takes(design: u32, width: u32, setting: u32) -> bool {
     match design {
@@ -28,7 +31,7 @@ pub fn outcome(signed: bool, (design, width, setting): (u32, u32, u32), (a, b): 
     if !(1..=4).contains(&design) {
         return Err(1);
     }
-    if ![8, 16, 32].contains(&width) {
+    if !WIDTHS.contains(&width) {
         return Err(2);
     }
     if !takes(design, width, setting) {
