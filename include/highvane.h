@@ -30,7 +30,7 @@ extern "C" {
 
 /* The version. Code that works with one version works, compiled again, with every later one of the same first number. */
 #define HIGHVANE_VERSION_MAJOR 2
-#define HIGHVANE_VERSION_MINOR 0
+#define HIGHVANE_VERSION_MINOR 1
 #define HIGHVANE_VERSION_PATCH 0
 
 /* The designs, each with the settings that it takes at width w; rows have width 16. */

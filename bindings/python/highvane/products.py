@@ -26,6 +26,8 @@ def signed_product(design, width, setting, a, b):
     >>> from highvane import Design
     >>> signed_product(Design.NEAREST_POWER, 8, 0, -5, 6)
     -32
+    >>> signed_product(Design.NEAREST_POWER, 12, 0, -5, 128)
+    -640
     >>> signed_product(Design.NEAREST_POWER, 8, 0, -5, 128)
     Traceback (most recent call last):
     highvane.refusals.Refused: refusal 20: only the second operand is outside the width
