@@ -2,7 +2,7 @@
 -- ones have sizes up to 2^(w−1) and a product below 2^(2w−1) in size, which 2w bits hold with its sign. Each is a test that was passed, or
 -- a law of `Widths` at this w. Assumes nothing.
 use mathlib.Core.Path.{_≡_, subst}
-use Prim.Native.Nat.{ℕ, suc, _+_, _-_, _*_, _^_, _≤_, _<_}
+use Prim.Native.Nat.{ℕ, suc, _-_, _*_, _^_, _≤_, _<_}
 use native.Mathlib.Omega.{arith}
 use mathlib.Core.Bool.{true}
 use borrow.Author.Tests.{leb-true}

@@ -4,7 +4,7 @@ use mathlib.Core.Path.{_≡_}
 use Prim.Native.Nat.{ℕ, _-_, _≤_, _<_}
 use native.Mathlib.Omega.{arith}
 use mathlib.Core.Bool.{true, _&&_}
-use borrow.Author.Tests.{lt-leb, leb-true, eqb-true, eqb-false}
+use borrow.Author.Tests.{lt-leb, leb-true, eqb-false}
 use lib.Dec.{leb, eqb, leb→le}
 use lib.Ieee.Fits.{and-l, and-r}
 use Rattle.designs.specs.Designs.{Design, KeepsBit, KeepsAtMost, mitchell, nearest, staged, truncated}

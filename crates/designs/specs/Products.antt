@@ -12,10 +12,11 @@ use Rattle.designs.specs.Outcomes.{Outcome, Refusal, _when_, first, unle
 abbrev pub isDesign : ℕ → Bool
 isDesign n = leb 1 n && leb n 4
 
--- The widths, in bits, and whether a number is one of them.
+-- The widths, in bits.
 abbrev pub widths : List ℕ
 widths = 8 ∷ 12 ∷ 16 ∷ 32 ∷ []
 
+-- Whether a number is found in a list.
 infix 70 _isIn_
 abbrev pub _isIn_ : ℕ → List ℕ → Bool
 n isIn [] = false

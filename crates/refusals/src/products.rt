@@ -3,6 +3,9 @@ ghost use mathlib.Core.Path.{_≡_};
 ghost use Rattle.designs.specs.Outcomes.{first};
 ghost use Rattle.designs.specs.Products.{isDesign, isWidth, takesSetting, settingRefusals, operandRefusals};
 
+// The widths, each a bit at its place.
+const WIDTHS: u64 = (1 << 8) | (1 << 12) | (1 << 16) | (1 << 32);
+
 pub fn is_design(design: u32) -> bool
     ensures { λ r. ⌜ r ≡ isDesign design ⌝ }
 {
@@ -11,9 +14,6 @@ pub fn is_design(design: u32) -> bool
     }
     design <= 4
 }
-
-// The widths, each a bit at its place.
-const WIDTHS: u64 = (1 << 8) | (1 << 12) | (1 << 16) | (1 << 32);
 
 pub fn is_width(width: u32) -> bool
     ensures { λ r. ⌜ r ≡ isWidth width ⌝ }
