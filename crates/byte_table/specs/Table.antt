@@ -1,17 +1,13 @@
 -- The rule of the table, and what a product by the table gives (docs/SCOPE.md, "The byte table"). Definitions only.
 use mathlib.Core.Path.{_≡_}
-use mathlib.Core.Bool.{Bool, true, _&&_}
-use mathlib.Core.List.{List, [], _∷_}
-use Prim.Native.Nat.{ℕ, suc, _+_, _%_, _<_}
+use mathlib.Core.Bool.{Bool}
+use mathlib.Core.List.{List}
+use Prim.Native.Nat.{ℕ, _+_, _%_, _<_}
 use lib.Dec.{T, eqb}
-use lib.ListN.{length}
+use lib.ListN.{length, getD}
 use Rattle.designs.specs.Designs.{mitchell, product}
 use Rattle.designs.specs.Codes.{code, scaledProduct, byCodes}
-
--- A test passes at each place of a table, counted from i, and the entry there.
-unfoldable pub every : (ℕ → ℕ → Bool) → ℕ → List ℕ → Bool
-every test i [] = true
-every test i (x ∷ xs) = test i x && every test (suc i) xs
+use Rattle.designs.specs.Lists.{everyBelow}
 
 -- The entry x at place v is the code of v; entry 0 holds 0, which is what `code` gives for 0.
 unfoldable pub isCode : ℕ → ℕ → Bool
@@ -21,7 +17,7 @@ isCode v x = eqb x (code 7 v)
 -- A table of 256 logarithm codes. The rule is one test over all entries together.
 pub record CodeTable (xs : List ℕ) : Type 0 where
   pub long : length xs ≡ 256
-  pub coded : T (every isCode 0 xs)
+  pub coded : T (everyBelow (λ (v : ℕ). isCode v (getD xs v 0)) (length xs))
 
 -- The sum of the codes of a and b. It is below 16 × 128, so Q is at most 15.
 pub record CodeSum (a b r : ℕ) : Type 0 where

@@ -8,7 +8,7 @@ use mathlib.Core.List.{List, [], _∷_}
 use borrow.Author.Tests.{eqb-true}
 use lib.Dec.{T, eqb}
 use lib.Ieee.Fits.{and-l, and-r}
-use Rattle.designs.specs.Products.{_isIn_}
+use Rattle.designs.specs.Lists.{_isIn_, everyBelow}
 use Rattle.designs.proofs.Cases.{by-bool, either-lt}
 
 abbrev pub every : (ℕ → Bool) → List ℕ → Bool
@@ -21,10 +21,6 @@ of-found p (m ∷ ns) n h e =
     by-bool (λ (b : Bool). b || n isIn ns ≡ true → T (p n)) (eqb n m)
     (λ is _. subst (λ (k : ℕ). T (p k)) (sym (eqb-true n m is)) (and-l (p m) (every p ns) h))
     (λ _ e. of-found p ns n (and-r (p m) (every p ns) h) e) e
-
-abbrev pub everyBelow : (ℕ → Bool) → ℕ → Bool
-everyBelow p zero = true
-everyBelow p (suc n) = p n && everyBelow p n
 
 pub of-below : (p : ℕ → Bool) (n m : ℕ) → T (everyBelow p n) → m < n → T (p m)
 of-below p zero m h l = absurd (not-suc-le-zero l)

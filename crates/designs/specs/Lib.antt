@@ -1,6 +1,7 @@
 pub mod Designs
 pub mod Signs
 pub mod Outcomes
+pub mod Lists
 pub mod Products
 pub mod Rows
 pub mod Demand

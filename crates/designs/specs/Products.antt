@@ -1,11 +1,12 @@
 -- What a product gives for any input (docs/SCOPE.md, "Setting" and "Product, unsigned or signed"). Definitions only.
 use Prim.Native.Nat.{ℕ, suc, _-_, _^_}
-use mathlib.Core.Bool.{Bool, false, not, _&&_, _||_, cond}
+use mathlib.Core.Bool.{Bool, not, _&&_, cond}
 use mathlib.Core.List.{List, [], _∷_, _++_}
 use lib.Dec.{leb, eqb}
 use lib.IntN.{ℤ, pos, negsuc}
 use Rattle.designs.specs.Designs.{Design, mitchell, nearest, staged, truncated, product}
 use Rattle.designs.specs.Signs.{signedProduct}
+use Rattle.designs.specs.Lists.{_isIn_}
 use Rattle.designs.specs.Outcomes.{Outcome, Refusal, _when_, first, unlessRefused}
 
 -- The designs are numbered 1 to 4.
@@ -15,12 +16,6 @@ isDesign n = leb 1 n && leb n 4
 -- The widths, in bits.
 abbrev pub widths : List ℕ
 widths = 8 ∷ 12 ∷ 16 ∷ 32 ∷ []
-
--- Whether a number is found in a list.
-infix 70 _isIn_
-abbrev pub _isIn_ : ℕ → List ℕ → Bool
-n isIn [] = false
-n isIn (m ∷ ms) = eqb n m || n isIn ms
 
 unfoldable pub isWidth : ℕ → Bool
 isWidth w = w isIn widths

@@ -6,9 +6,10 @@ use native.Mathlib.Omega.{arith}
 use mathlib.Core.Bool.{Bool, true, false, Bool·beq}
 use lib.Bits.{bitAnd}
 use lib.Dec.{T, eqb}
+use Rattle.designs.specs.Lists.{everyBelow}
 use Rattle.designs.specs.Products.{isWidth}
 use Rattle.designs.proofs.Cases.{by-bool}
-use Rattle.designs.proofs.Lists.{everyBelow, of-below}
+use Rattle.designs.proofs.Lists.{of-below}
 use Rattle.designs.proofs.Settings.{width-bounds}
 
 abbrev pub bit : ℕ → ℕ → Bool

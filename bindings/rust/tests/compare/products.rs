@@ -74,7 +74,8 @@ pub fn twelve_bit_pairs<const DESIGN: u32>(_: &mut Random, tally: &mut Tally) {
     }
 }
 
-/// Every design, width and setting near the known ones, with operands on both sides of every limit, so that each order of refusals arises.
+/// Every design, width and setting near the known ones, with operands on both sides of every limit, so that each order of refusals
+/// arises.
 pub fn numbers(_: &mut Random, tally: &mut Tally) {
     let powers = products::WIDTHS.into_iter().flat_map(|width| [designs::power(width - 1), designs::power(width)]);
     let operands: Vec<_> = powers.flat_map(|power| [power - 1, power]).chain([0, 1, 3, i128::from(i64::MAX)]).collect();

@@ -7,7 +7,7 @@ use native.Mathlib.Omega.{arith}
 use Rattle.designs.specs.Designs.{mitchell, product}
 use Rattle.designs.proofs.Zeros.{zero-product}
 use Rattle.designs.proofs.Codes.{codes-whole, codes-mitchell, nonzero-codes-mitchell}
-use Rattle.byte_table.specs.Table.{every, isCode, TableProduct}
+use Rattle.byte_table.specs.Table.{isCode, TableProduct}
 use Rattle.byte_table.proofs.table_product.Statement.{statement}
 use Rattle.byte_table.proofs.table_product.Tie as tie
 
@@ -26,7 +26,7 @@ returns-2 : tie.Need-returns-2
 returns-2 c = by-design1 (c .before .before) 0 (sym (zero-product mitchell _ _ (rw (c .if2 .taken) (omega arith))))
 
 code-sum-requires : tie.Need-code-sum-requires
-unfolding every isCode
+unfolding isCode
 code-sum-requires c κs = (record { long = refl; coded = tt }, search needs)
 
 returns-3 : tie.Need-returns-3
