@@ -1,12 +1,14 @@
 -- One turn of a row: what a pair adds to the sums, for any design. With the pair's true product and residue, what was reached after i
 -- pairs becomes what is reached after i + 1, and each sum stays within its bound. Assumes nothing.
-use mathlib.Core.Path.{_≡_, refl, sym, ap, ap₂, _∙_}
+use mathlib.Core.Path.{_≡_, refl, sym, ap, ap₂, _∙_, subst}
 use Prim.Native.Nat.{ℕ, zero, suc, _+_, _*_, _^_, _≤_, _<_}
 use native.Mathlib.Numerals.{add-one}
 use native.Mathlib.Omega.{arith}
 use mathlib.Core.List.{List}
 use lib.IntN.{ℤ, pos, natAbs, _+ℤ_, _*ℤ_}
 use lib.ListN.{length, getD, set}
+use mir.Syntax.{w16}
+use mir.Val.{SFits}
 use Rattle.designs.specs.Designs.{unlessZero}
 use Rattle.designs.specs.Rows.{nonzero}
 use Rattle.designs.proofs.Cases.{either-lt}
@@ -15,7 +17,7 @@ use Rattle.rows.specs.Answers.{Fits16}
 use Rattle.patterns.proofs.Blocks.{next-done, none-done}
 use Rattle.pairs.proofs.Integers.{true-size}
 use Rattle.blocks.specs.Residues.{ofPair}
-use Rattle.rows.specs.Totals.{total, count, noSums, Reached, Roomy, withPair}
+use Rattle.rows.specs.Totals.{total, count, noSums, Reached, Roomy, Turnable, withPair}
 use Rattle.rows.specs.declared.sums.Sums.{Sums}
 
 total-next : (f : ℕ → ℤ) (n : ℕ) → total f (n + 1) ≡ total f n +ℤ f n
@@ -52,9 +54,9 @@ nothing z ws fs before =
     }
 
 -- a pair more, with the residue r
-pub turn : {z : ℕ → ℤ} {ws fs before after : List ℤ} {i : ℕ} (s : Sums) {r : ℤ} → Reached z ws fs before after i s → i < length before → r ≡ z i → natAbs r ≤ 2 ^ 31 → Fits16 ws fs i
+with-next : {z : ℕ → ℤ} {ws fs before after : List ℤ} {i : ℕ} {s : Sums} {r : ℤ} → Reached z ws fs before after i s → i < length before → r ≡ z i → natAbs r ≤ 2 ^ 31 → Fits16 ws fs i
     → Reached z ws fs before (set after i r) (i + 1) (ofPair (withPair s) ws fs i r)
-turn {z} {ws} {fs} {i = i} s {r} so-far l er hr hf =
+with-next {z} {ws} {fs} {i = i} {s} {r} so-far l er hr hf =
     let w = getD ws i (pos 0) in
     let x = getD fs i (pos 0) in
     record {
@@ -69,6 +71,11 @@ turn {z} {ws} {fs} {i = i} s {r} so-far l er hr hf =
       fits = λ k g. either-lt k i (so-far .fits k) (λ b. let q : k ≡ i = omega arith in rw q hf);
       places = next-done z i r (so-far .places) l er;
     }
+
+pub turn : {z : ℕ → ℤ} {ws fs before after : List ℤ} {i : ℕ} {s : Sums} {w x r : ℤ} → Turnable z ws fs before after i s w x r → SFits w16 w → SFits w16 x → natAbs r ≤ 2 ^ 31
+    → Reached z ws fs before (set after i r) (i + 1) (withPair s w x r)
+turn ok hw hx hr =
+    rw (ok .weight, ok .number) (with-next (ok .reached) (ok .room) (ok .is) hr (subst (SFits w16) (ok .weight) hw, subst (SFits w16) (ok .number) hx))
 
 -- a row has at most 4,096 pairs, whose sums leave room
 pub roomy : {z : ℕ → ℤ} {ws fs before after : List ℤ} {i : ℕ} {s : Sums} → Reached z ws fs before after i s → i ≤ 4096 → Roomy s

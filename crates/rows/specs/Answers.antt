@@ -1,17 +1,17 @@
--- What an answer of `score_row` says, and what it promises. Definitions only.
+-- What an answer of a row says, and what it promises. Definitions only.
 use mathlib.Core.Path.{_≡_}
 use Prim.Native.Nat.{ℕ, _^_, _≤_, _<_}
-use mathlib.Core.List.{List, _++_}
+use mathlib.Core.List.{List}
 use lib.IntN.{ℤ, pos, natAbs}
-use lib.ListN.{length, drop, getD}
+use lib.ListN.{length, getD}
 use mir.Syntax.{w16}
 use mir.Val.{SFits}
 use Rattle.designs.specs.Outcomes.{Outcome, accepted, refused}
 use Rattle.designs.specs.Products.{designOf}
-use Rattle.designs.specs.Rows.{Report, report, residues}
+use Rattle.designs.specs.Rows.{Report}
 use Rattle.designs.specs.Scoring.{rowOutcome, rowWritten}
 use Rattle.designs.specs.Demand.{Demand}
-use Rattle.designs.specs.Designs.{Keeps}
+use Rattle.designs.specs.Designs.{Design, Keeps}
 use Rattle.patterns.specs.Patterns.{clamped}
 use Rattle.rows.specs.declared.RowReport.{RowReport}
 use Rattle.rows.specs.declared.Scored.{Scored}
@@ -43,15 +43,9 @@ pub record Scoring (design setting : ℕ) (ws fs before after : List ℤ) (answe
 abbrev pub Fits16 : List ℤ → List ℤ → ℕ → Type 0
 Fits16 ws fs k = SFits w16 (getD ws k (pos 0)) × SFits w16 (getD fs k (pos 0))
 
--- a row that can be scored
-pub record Ready (design setting : ℕ) (ws fs before : List ℤ) : Type 0 where
-  pub kept : Keeps (λ t. clamped t ≡ t) (designOf design setting)
+-- a row that can be scored by a design
+pub record Ready (D : Design) (ws fs before : List ℤ) : Type 0 where
+  pub kept : Keeps (λ t. clamped t ≡ t) D
   pub lengths : length ws ≡ length fs
   pub pairs : length ws ≤ 4096
   pub places : length ws ≤ length before
-
--- and what scoring it gives
-pub record Summed (design setting : ℕ) (ws fs before after : List ℤ) (r : RowReport) : Type 0 where
-  pub is : reportOf r ≡ report (designOf design setting) ws fs
-  pub written : after ≡ residues (designOf design setting) ws fs ++ drop (length ws) before
-  pub fits : (k : ℕ) → k < length ws → Fits16 ws fs k

@@ -1,15 +1,13 @@
 -- What the loops over a row keep: totals over its first pairs, and their residues in the first places. Definitions only.
 use mathlib.Core.Path.{_≡_}
-use Prim.Native.Nat.{ℕ, zero, suc, _+_, _*_, _^_, _≤_, _<_}
+use Prim.Native.Nat.{ℕ, zero, suc, _+_, _-_, _*_, _^_, _≤_, _<_}
 use mathlib.Core.List.{List}
 use lib.IntN.{ℤ, pos, natAbs, _+ℤ_, _-ℤ_, _*ℤ_}
 use lib.ListN.{length}
-use Rattle.designs.specs.Designs.{Design, Keeps}
-use Rattle.designs.specs.Products.{designOf}
+use Rattle.designs.specs.Designs.{Design}
 use Rattle.designs.specs.Rows.{Report, nonzero}
 use Rattle.designs.specs.Signs.{residue}
 use Rattle.patterns.specs.Blocks.{Done, place}
-use Rattle.patterns.specs.Patterns.{clamped}
 use Rattle.blocks.specs.Residues.{ofPair}
 use Rattle.rows.specs.Answers.{Fits16}
 use Rattle.rows.specs.declared.sums.Sums.{Sums}
@@ -22,21 +20,6 @@ total f (suc n) = total f n +ℤ f n
 unfoldable pub count : (ℕ → ℕ) → ℕ → ℕ
 count f zero = 0
 count f (suc n) = count f n + f n
-
--- n pairs from `from` on are pairs of a row
-pub record Inside (ws fs : List ℤ) (from n : ℕ) : Type 0 where
-  pub weights : from + n ≤ length ws
-  pub frame : from + n ≤ length fs
-
--- their residues by a design that has been judged can fill a block, with two places for a pair
-pub record Fillable (design setting : ℕ) (ws fs block : List ℤ) (from n : ℕ) : Type 0 where
-  pub inside : Inside ws fs from n
-  pub room : n + n ≤ length block
-  pub kept : Keeps (λ t. clamped t ≡ t) (designOf design setting)
-
--- the first n places of a block hold what z gives for these pairs
-abbrev pub Holds : (ℕ → ℤ) → ℕ → ℕ → List ℤ → Type 0
-Holds z from n block = (k : ℕ) → k < n → place block k ≡ z (from + k)
 
 -- sums that have room for a pair more
 pub record Roomy (s : Sums) : Type 0 where
@@ -88,11 +71,22 @@ pub record Reached (z : ℕ → ℤ) (ws fs before after : List ℤ) (n : ℕ) (
 abbrev pub Complete : Design → List ℤ → List ℤ → List ℤ → List ℤ → Sums → Type 0
 Complete D ws fs before after = Reached (ofPair (residue D) ws fs) ws fs before after (length ws)
 
--- what adding a block of n pairs asks, whatever the residues z are
-pub record Addable (z : ℕ → ℤ) (s : Sums) (ws fs block before places : List ℤ) (from n : ℕ) : Type 0 where
+-- What a turn asks, whatever the residues z are: pair `at` is the next, and w, x and r are its numbers and its residue.
+pub record Turnable (z : ℕ → ℤ) (ws fs before places : List ℤ) (at : ℕ) (s : Sums) (w x r : ℤ) : Type 0 where
+  pub reached : Reached z ws fs before places at s
+  pub few : at < 4096
+  pub room : at < length before
+  pub weight : w ≡ place ws at
+  pub number : x ≡ place fs at
+  pub is : r ≡ z at
+
+-- what adding the pairs from `from` up to `end` asks: that the first places of a block hold their residues
+pub record Addable (z : ℕ → ℤ) (s : Sums) (ws fs block before places : List ℤ) (from end : ℕ) : Type 0 where
   pub reached : Reached z ws fs before places from s
-  pub inside : Inside ws fs from n
-  pub pairs : from + n ≤ 4096
-  pub room : from + n ≤ length before
-  pub in-block : n ≤ length block
-  pub filled : Holds z from n block
+  pub upward : from ≤ end
+  pub weights : end ≤ length ws
+  pub frame : end ≤ length fs
+  pub pairs : end ≤ 4096
+  pub room : end ≤ length before
+  pub in-block : end - from ≤ length block
+  pub filled : (k : ℕ) → k < end - from → place block k ≡ z (from + k)

@@ -4,8 +4,11 @@ ghost use mathlib.Core.Path.{_≡_};
 ghost use Rattle.designs.specs.Rows.{emptyReport};
 ghost use Rattle.rows.specs.Answers.{Scoring, reportOf};
 
-mod choice;
+mod by_blocks;
+mod one_by_one;
 mod sums;
+
+use crate::sums::report_of;
 
 // The report of a row: `magnitude_sum` is the scope's T, and `nonzero_pairs` its n. It is laid out as C has it.
 #[repr(C)]
@@ -38,7 +41,10 @@ pub enum Scored {
     Refused(u32),
 }
 
-// Scores a row in one pass. Place i of `residues` gets what pair i leaves; a refused row leaves every place as it was.
+// Rows of fewer pairs take less time one by one than by a block.
+const FEW: usize = 4;
+
+// Scores a row by the design that is asked for. Place i of `residues` gets what pair i leaves; a refused row leaves every place as it was.
 pub fn score_row(
     design: u32,
     setting: u32,
@@ -48,9 +54,87 @@ pub fn score_row(
 ) -> Scored
     ensures { λ r. ⌜ Scoring design setting (now (weights .entry)) (now (frame .entry)) (now (residues .entry)) (now (residues .exit)) r ⌝ }
 {
-    let refusal = refusals::of_row(design, setting, weights.len(), frame.len(), residues.len());
+    if design == 1 {
+        return score_row_mitchell(setting, weights, frame, residues);
+    }
+    if design == 2 {
+        return score_row_nearest(setting, weights, frame, residues);
+    }
+    if design == 3 {
+        return score_row_staged(setting, weights, frame, residues);
+    }
+    if design == 4 {
+        return score_row_truncated(setting, weights, frame, residues);
+    }
+    Scored::Refused(refusals::UNKNOWN_DESIGN)
+}
+
+// The same by design 1 alone, Mitchell's, which takes the setting 0.
+pub fn score_row_mitchell(
+    setting: u32,
+    weights: &[i16],
+    frame: &[i16],
+    residues: &mut [i64],
+) -> Scored
+    ensures { λ r. ⌜ Scoring 1 setting (now (weights .entry)) (now (frame .entry)) (now (residues .entry)) (now (residues .exit)) r ⌝ }
+{
+    let refusal = refusals::of_row(1, setting, weights.len(), frame.len(), residues.len());
     if refusal != 0 {
         return Scored::Refused(refusal);
     }
-    Scored::Report(sums::accumulate(design, setting, weights, frame, residues))
+    Scored::Report(report_of(one_by_one::mitchell(weights, frame, residues)))
+}
+
+// By design 2 alone, the nearest power, which takes the setting 0.
+pub fn score_row_nearest(
+    setting: u32,
+    weights: &[i16],
+    frame: &[i16],
+    residues: &mut [i64],
+) -> Scored
+    ensures { λ r. ⌜ Scoring 2 setting (now (weights .entry)) (now (frame .entry)) (now (residues .entry)) (now (residues .exit)) r ⌝ }
+{
+    let refusal = refusals::of_row(2, setting, weights.len(), frame.len(), residues.len());
+    if refusal != 0 {
+        return Scored::Refused(refusal);
+    }
+    if weights.len() < FEW {
+        return Scored::Report(report_of(one_by_one::nearest(weights, frame, residues)));
+    }
+    Scored::Report(report_of(by_blocks::nearest(weights, frame, residues)))
+}
+
+// By design 3 alone; the setting is the number of stages.
+pub fn score_row_staged(
+    setting: u32,
+    weights: &[i16],
+    frame: &[i16],
+    residues: &mut [i64],
+) -> Scored
+    ensures { λ r. ⌜ Scoring 3 setting (now (weights .entry)) (now (frame .entry)) (now (residues .entry)) (now (residues .exit)) r ⌝ }
+{
+    let refusal = refusals::of_row(3, setting, weights.len(), frame.len(), residues.len());
+    if refusal != 0 {
+        return Scored::Refused(refusal);
+    }
+    if weights.len() < FEW {
+        return Scored::Report(report_of(one_by_one::staged(setting, weights, frame, residues)));
+    }
+    Scored::Report(report_of(by_blocks::staged(setting, weights, frame, residues)))
+}
+
+// By design 4 alone; the setting is the number of kept bits.
+pub fn score_row_truncated(
+    setting: u32,
+    weights: &[i16],
+    frame: &[i16],
+    residues: &mut [i64],
+) -> Scored
+    ensures { λ r. ⌜ Scoring 4 setting (now (weights .entry)) (now (frame .entry)) (now (residues .entry)) (now (residues .exit)) r ⌝ }
+{
+    let refusal = refusals::of_row(4, setting, weights.len(), frame.len(), residues.len());
+    if refusal != 0 {
+        return Scored::Refused(refusal);
+    }
+    Scored::Report(report_of(one_by_one::truncated(setting, weights, frame, residues)))
 }

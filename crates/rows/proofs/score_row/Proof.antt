@@ -1,18 +1,23 @@
--- `score_row` judges, and scores what is accepted. Assumes nothing.
+-- A row by the design that is asked for is the row by that design, and where it is none of the four it is refused. Assumes nothing.
 use borrow.Author.Needs.{needs}
-use mathlib.Core.Path.{sym, _∙_}
-use Rattle.rows.proofs.RowOutcome.{ready, refuse, score}
+use Rattle.rows.proofs.RowOutcome.{unknown}
 use Rattle.rows.proofs.score_row.Statement.{statement}
 use Rattle.rows.proofs.score_row.Tie as tie
 
-returns : tie.Need-returns
-returns c = refuse _ _ _ _ _ _ (c .before .of-row .ensures) (c .if1 .taken)
-
-accumulate-requires : tie.Need-accumulate-requires
-accumulate-requires c κs = ready _ _ _ _ _ (sym (c .before .before .of-row .ensures) ∙ c .before .if1 .left)
-
-returns-2 : tie.Need-returns-2
-returns-2 c = score _ _ _ _ _ _ _ (sym (c .before .before .before .before .of-row .ensures) ∙ c .before .before .before .if1 .left) (c .before .accumulate .ensures)
-
 pub score-row-spec : {M : Type 1} → statement M
-score-row-spec = tie.close (tie.spec (λ c κs. search needs) returns accumulate-requires (λ c. search needs) returns-2)
+score-row-spec =
+    tie.close
+    (tie.spec
+    (λ c κs. search needs)
+    (λ c. search needs)
+    (λ c. rw (c .before .before .before .if1 .taken) (c .before .score-row-mitchell .ensures))
+    (λ c κs. search needs)
+    (λ c. search needs)
+    (λ c. rw (c .before .before .before .if2 .taken) (c .before .score-row-nearest .ensures))
+    (λ c κs. search needs)
+    (λ c. search needs)
+    (λ c. rw (c .before .before .before .if3 .taken) (c .before .score-row-staged .ensures))
+    (λ c κs. search needs)
+    (λ c. search needs)
+    (λ c. rw (c .before .before .before .if4 .taken) (c .before .score-row-truncated .ensures))
+    (λ c. unknown _ _ (c .before .before .before .if1 .left) (c .before .before .if2 .left) (c .before .if3 .left) (c .if4 .left)))

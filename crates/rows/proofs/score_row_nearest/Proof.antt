@@ -1,0 +1,20 @@
+-- The row is judged, and what is accepted is scored. Assumes nothing.
+use borrow.Author.Needs.{needs}
+use Rattle.rows.proofs.RowOutcome.{ready, refuse, room, score}
+use Rattle.rows.proofs.score_row_nearest.Statement.{statement}
+use Rattle.rows.proofs.score_row_nearest.Tie as tie
+
+pub score-row-nearest-spec : {M : Type 1} → statement M
+score-row-nearest-spec =
+    tie.close
+    (tie.spec
+    (λ c κs. search needs)
+    (λ c. refuse 2 _ _ _ _ (c .before .of-row .ensures) (c .if1 .taken))
+    (λ c κs. let judged = c .before .before in ready 2 _ _ _ _ (judged .before .of-row .ensures) (judged .if1 .left))
+    (λ c κs. let judged = c .before .before .before .before in room 2 _ _ _ _ (judged .before .of-row .ensures) (judged .if1 .left) (c .before .nearest .ensures))
+    (λ c. search needs)
+    (λ c. let judged = c .before .before .before .before .before in score 2 _ _ _ _ (judged .before .of-row .ensures) (judged .if1 .left) (c .before .before .nearest .ensures) (c .report-of .ensures))
+    (λ c κs. let judged = c .before .before in ready 2 _ _ _ _ (judged .before .of-row .ensures) (judged .if1 .left))
+    (λ c κs. let judged = c .before .before .before .before in room 2 _ _ _ _ (judged .before .of-row .ensures) (judged .if1 .left) (c .before .nearest2 .ensures))
+    (λ c. search needs)
+    (λ c. let judged = c .before .before .before .before .before in score 2 _ _ _ _ (judged .before .of-row .ensures) (judged .if1 .left) (c .before .before .nearest2 .ensures) (c .report-of2 .ensures)))

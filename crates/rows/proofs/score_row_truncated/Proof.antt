@@ -1,0 +1,16 @@
+-- The row is judged, and what is accepted is scored. Assumes nothing.
+use borrow.Author.Needs.{needs}
+use Rattle.rows.proofs.RowOutcome.{ready, refuse, room, score}
+use Rattle.rows.proofs.score_row_truncated.Statement.{statement}
+use Rattle.rows.proofs.score_row_truncated.Tie as tie
+
+pub score-row-truncated-spec : {M : Type 1} → statement M
+score-row-truncated-spec =
+    tie.close
+    (tie.spec
+    (λ c κs. search needs)
+    (λ c. refuse 4 _ _ _ _ (c .before .of-row .ensures) (c .if1 .taken))
+    (λ c κs. let judged = c .before in ready 4 _ _ _ _ (judged .before .of-row .ensures) (judged .if1 .left))
+    (λ c κs. let judged = c .before .before .before in room 4 _ _ _ _ (judged .before .of-row .ensures) (judged .if1 .left) (c .before .truncated .ensures))
+    (λ c. search needs)
+    (λ c. let judged = c .before .before .before .before in score 4 _ _ _ _ (judged .before .of-row .ensures) (judged .if1 .left) (c .before .before .truncated .ensures) (c .report-of .ensures)))
