@@ -8,7 +8,8 @@ ghost use Rattle.stores.specs.Stores.{storeRefusal};
 ghost use Rattle.byte_table.specs.Table.{TableProduct};
 ghost use Rattle.singles.specs.Singles.{singleOutcome};
 ghost use Rattle.transcripts.specs.Transcripts.{Written};
-ghost use Rattle.capi.specs.Rows.{RowStruct};
+ghost use Rattle.rows.specs.Answers.{given};
+ghost use Rattle.capi.specs.Rows.{RowLaid, RowStruct};
 ghost use Rattle.capi.specs.Structs.{unsignedStruct, signedStruct, scaledStruct, singleStruct};
 
 #[repr(C)]
@@ -76,6 +77,19 @@ pub struct ScoredRow {
     pub refusal: u32,
 }
 
+fn laid(answer: rows::Scored) -> ScoredRow
+    ensures { λ r. ⌜ RowLaid (given answer) r ⌝ }
+{
+    match answer {
+        rows::Scored::Report(report) => ScoredRow { report, refusal: 0 },
+        rows::Scored::Refused(refusal) => ScoredRow {
+            report: rows::RowReport::empty(),
+            refusal,
+        },
+    }
+}
+
+// A row by any design decides between the four below, and not by `rows::score_row`: so no answer is copied on its way to C.
 #[no_mangle]
 pub extern "C" fn highvane_score_row(
     design: u32,
@@ -86,14 +100,67 @@ pub extern "C" fn highvane_score_row(
 ) -> ScoredRow
     ensures { λ r. ⌜ RowStruct design setting (now (weights .entry)) (now (frame .entry)) (now (residues .entry)) (now (residues .exit)) r ⌝ }
 {
-    let answer = rows::score_row(design, setting, weights, frame, residues);
-    match answer {
-        rows::Scored::Report(report) => ScoredRow { report, refusal: 0 },
-        rows::Scored::Refused(refusal) => ScoredRow {
-            report: rows::RowReport::empty(),
-            refusal,
-        },
+    if design == 1 {
+        return highvane_score_row_mitchell(setting, weights, frame, residues);
     }
+    if design == 2 {
+        return highvane_score_row_nearest(setting, weights, frame, residues);
+    }
+    if design == 3 {
+        return highvane_score_row_staged(setting, weights, frame, residues);
+    }
+    if design == 4 {
+        return highvane_score_row_truncated(setting, weights, frame, residues);
+    }
+    laid(rows::Scored::Refused(refusals::UNKNOWN_DESIGN))
+}
+
+#[no_mangle]
+pub extern "C" fn highvane_score_row_mitchell(
+    setting: u32,
+    weights: &[i16],
+    frame: &[i16],
+    residues: &mut [i64],
+) -> ScoredRow
+    ensures { λ r. ⌜ RowStruct 1 setting (now (weights .entry)) (now (frame .entry)) (now (residues .entry)) (now (residues .exit)) r ⌝ }
+{
+    laid(rows::score_row_mitchell(setting, weights, frame, residues))
+}
+
+#[no_mangle]
+pub extern "C" fn highvane_score_row_nearest(
+    setting: u32,
+    weights: &[i16],
+    frame: &[i16],
+    residues: &mut [i64],
+) -> ScoredRow
+    ensures { λ r. ⌜ RowStruct 2 setting (now (weights .entry)) (now (frame .entry)) (now (residues .entry)) (now (residues .exit)) r ⌝ }
+{
+    laid(rows::score_row_nearest(setting, weights, frame, residues))
+}
+
+#[no_mangle]
+pub extern "C" fn highvane_score_row_staged(
+    setting: u32,
+    weights: &[i16],
+    frame: &[i16],
+    residues: &mut [i64],
+) -> ScoredRow
+    ensures { λ r. ⌜ RowStruct 3 setting (now (weights .entry)) (now (frame .entry)) (now (residues .entry)) (now (residues .exit)) r ⌝ }
+{
+    laid(rows::score_row_staged(setting, weights, frame, residues))
+}
+
+#[no_mangle]
+pub extern "C" fn highvane_score_row_truncated(
+    setting: u32,
+    weights: &[i16],
+    frame: &[i16],
+    residues: &mut [i64],
+) -> ScoredRow
+    ensures { λ r. ⌜ RowStruct 4 setting (now (weights .entry)) (now (frame .entry)) (now (residues .entry)) (now (residues .exit)) r ⌝ }
+{
+    laid(rows::score_row_truncated(setting, weights, frame, residues))
 }
 
 #[no_mangle]
