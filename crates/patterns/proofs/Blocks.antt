@@ -11,9 +11,9 @@ use lib.IntN.{ℤ, pos, natAbs}
 use lib.ListN.{length, set, length-set}
 use lib.Seq.{getD-set-other, getD-set-same}
 use Rattle.designs.proofs.Cases.{either-lt}
-use Rattle.designs.proofs.SignedLeft.{left-next, left-none, rest-size}
+use Rattle.designs.proofs.SignedLeft.{left-next, rest-size}
 use Rattle.designs.specs.Signs.{leftℤ, restℤ}
-use Rattle.patterns.specs.Blocks.{Copied, Done, joined, place, Small}
+use Rattle.patterns.specs.Blocks.{Done, joined, place, Placed, Small}
 
 pub none-done : (g : ℕ → ℤ) (block : List ℤ) → Done g 0 block block
 none-done g block = record { size = refl; first = λ j h. absurd (omega arith); later = λ j h. refl }
@@ -62,32 +62,35 @@ behind n f g k = in-second n f g (n + k) (omega arith) ∙ ap g (add-sub-cancel-
 pub kept-done : (from : ℕ) (g : ℕ → ℤ) (block : List ℤ) → Done (joined from (place block) g) from block block
 kept-done from g block = record { size = refl; first = λ j h. sym (in-first from (place block) g j h); later = λ j h. refl }
 
--- two copies, one behind the other
-pub both-copied : (n : ℕ) (ws fs : List ℤ) {before block after : List ℤ} → Copied n ws 0 before block → Copied n fs n block after
-    → Done (joined n (place ws) (place fs)) (n + n) before after
-both-copied n ws fs {before} {block} c d =
-    record {
-      size = d .done .size ∙ c .done .size;
-      first =
-          λ j h. either-lt j n
-          (λ l. d .done .first j h ∙ in-first n (place block) (place fs) j l ∙ c .done .first j (omega arith) ∙ in-second 0 (place before) (place ws) j (omega arith) ∙ ap (place ws) (sub-zero j)
-          ∙ sym (in-first n (place ws) (place fs) j l))
-          (λ l. d .done .first j h ∙ in-second n (place block) (place fs) j l ∙ sym (in-second n (place ws) (place fs) j l));
-      later = λ j h. d .done .later j h ∙ c .done .later j (omega arith);
-    }
+-- two runs that have been placed, one behind the other
+module _ (n : ℕ) (f g : ℕ → ℤ) {before block after : List ℤ} (c : Placed f n 0 before block) (d : Placed g n n block after) where
+  pub both-placed : Done (joined n f g) (n + n) before after
+  both-placed =
+      record {
+        size = d .done .size ∙ c .done .size;
+        first =
+            λ j h. either-lt j n
+            (λ l. d .done .first j h ∙ in-first n (place block) g j l ∙ c .done .first j (omega arith) ∙ in-second 0 (place before) f j (omega arith) ∙ ap f (sub-zero j) ∙ sym (in-first n f g j l))
+            (λ l. d .done .first j h ∙ in-second n (place block) g j l ∙ sym (in-second n f g j l));
+        later = λ j h. d .done .later j h ∙ c .done .later j (omega arith);
+      }
 
-pub both-small : (n : ℕ) (ws fs : List ℤ) {before block after : List ℤ} → Copied n ws 0 before block → Copied n fs n block after
-    → (j : ℕ) → j < n + n → natAbs (joined n (place ws) (place fs) j) ≤ 2 ^ 15
-both-small n ws fs c d j h =
-    either-lt j n (λ l. rw (in-first n (place ws) (place fs) j l) (c .small j l)) (λ l. rw (in-second n (place ws) (place fs) j l) (d .small (j - n) (omega arith)))
+  pub both-small : (j : ℕ) → j < n + n → natAbs (joined n f g j) ≤ 2 ^ 15
+  both-small j h = either-lt j n (λ l. rw (in-first n f g j l) (c .small j l)) (λ l. rw (in-second n f g j l) (d .small (j - n) (omega arith)))
+
+-- what is done stands there, by any other name of it
+pub standing : {f g : ℕ → ℤ} {n : ℕ} {before after : List ℤ} → ((j : ℕ) → f j ≡ g j) → Done f n before after → Done g n after after
+standing same d = record { size = refl; first = λ j h. d .first j h ∙ same j; later = λ j h. refl }
+
+pub joined-by : (q : ℤ → ℤ) (n : ℕ) (f g : ℕ → ℤ) (j : ℕ) → joined n (λ i. q (f i)) (λ i. q (g i)) j ≡ q (joined n f g j)
+joined-by q n f g j =
+    either-lt j n (λ l. in-first n (λ i. q (f i)) (λ i. q (g i)) j l ∙ sym (ap q (in-first n f g j l)))
+    (λ l. in-second n (λ i. q (f i)) (λ i. q (g i)) j l ∙ sym (ap q (in-second n f g j l)))
 
 -- what the stages leave of numbers
 module _ (g : ℕ → ℤ) where
   abbrev pub After : ℕ → ℕ → List ℤ → List ℤ → Type 0
   After k n before after = Done (λ j. leftℤ k (g j)) n before after
-
-  pub no-stage : {n : ℕ} {before after : List ℤ} → Done g n before after → After 0 n after after
-  no-stage d = record { size = refl; first = λ j h. rw (left-none (g j)) (d .first j h); later = λ j h. refl }
 
   pub one-more : (k : ℕ) {n : ℕ} {before block after : List ℤ} → After k n before block → Done (λ j. restℤ (place block j)) n block after → After (k + 1) n before after
   one-more k d e =

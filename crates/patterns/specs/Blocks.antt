@@ -31,10 +31,10 @@ pub record Room (n : ℕ) (numbers : List ℤ) (from : ℕ) (block : List ℤ) :
   pub enough : n ≤ length numbers
   pub places : from + n ≤ length block
 
--- They are copied behind what stands before, and small.
-pub record Copied (n : ℕ) (numbers : List ℤ) (from : ℕ) (before after : List ℤ) : Type 0 where
-  pub done : Done (joined from (place before) (place numbers)) (from + n) before after
-  pub small : (i : ℕ) → i < n → natAbs (place numbers i) ≤ 2 ^ 15
+-- What g gives stands in n places, behind what stands before, and is small.
+pub record Placed (g : ℕ → ℤ) (n from : ℕ) (before after : List ℤ) : Type 0 where
+  pub done : Done (joined from (place before) g) (from + n) before after
+  pub small : (i : ℕ) → i < n → natAbs (g i) ≤ 2 ^ 15
 
 -- What the stages leave of n weights, and behind them of n numbers of the frame, is in the first places, and small.
 pub record Left (stages : ℕ) (ws fs : List ℤ) (n : ℕ) (before after : List ℤ) : Type 0 where

@@ -1,12 +1,13 @@
 // What stages of design 3 leave of a block of numbers, one stage over the whole block before the next, so that a stage is vector code
-// for any number of stages. The steps inside take sizes of at most 2^15, which the block keeps; the numbers that come in are any.
+// for any number of stages. The first is made as the numbers come in. The steps inside take sizes of at most 2^15, which the block keeps;
+// the numbers that come in are any.
 ghost use mathlib.Core.Path.{_≡_};
-ghost use Prim.Native.Nat.{_/_, _^_, _≤_};
+ghost use Prim.Native.Nat.{min, _/_, _^_, _≤_};
 ghost use lib.IntN.{natAbs};
 ghost use lib.ListN.{length};
-ghost use Rattle.designs.specs.Signs.{restℤ};
+ghost use Rattle.designs.specs.Signs.{leftℤ, restℤ};
 ghost use Rattle.pairs.specs.Lengths.{pairsOf};
-ghost use Rattle.patterns.specs.Blocks.{Copied, Done, Left, place, Room, Small};
+ghost use Rattle.patterns.specs.Blocks.{Done, Left, place, Placed, Room, Small};
 use crate::powers::less_power;
 
 // What one stage leaves of x, with its sign.
@@ -29,15 +30,26 @@ fn clear(n: usize, block: &mut [i32])
     }
 }
 
-// The first n numbers, to the places of a block from `from` on.
-fn copy(n: usize, numbers: &[i16], from: usize, block: &mut [i32])
+// What the first of the stages leaves of x: x itself where there is none.
+fn first_rest(stages: u32, x: i32) -> i32
+    requires { ⌜ natAbs x ≤ 2 ^ 15 ⌝ }
+    ensures { λ r. ⌜ r ≡ leftℤ (min stages 1) x ⌝ }
+{
+    if stages == 0 {
+        return x;
+    }
+    signed_rest(x)
+}
+
+// What the first of the stages leaves of the first n numbers, to the places of a block from `from` on.
+fn begin(stages: u32, n: usize, numbers: &[i16], from: usize, block: &mut [i32])
     requires { ⌜ Room n (now numbers) from (now block) ⌝ }
-    ensures { λ r. ⌜ Copied n (now (numbers .entry)) from (now (block .entry)) (now (block .exit)) ⌝ }
+    ensures { λ r. ⌜ Placed (λ i. leftℤ (min stages 1) (place (now (numbers .entry)) i)) n from (now (block .entry)) (now (block .exit)) ⌝ }
 {
     let mut i = 0;
     while i < n {
         let z = numbers[i];
-        block[from + i] = z as i32;
+        block[from + i] = first_rest(stages, z as i32);
         i += 1;
     }
 }
@@ -49,9 +61,9 @@ pub fn pairs_left(stages: u32, weights: &[i16], frame: &[i16], left: &mut [i32])
     ensures { λ r. ⌜ (r ≡ pairsOf (length (now (weights .entry))) (length (now (frame .entry))) (length (now (left .entry)) / 2)) × Left stages (now (weights .entry)) (now (frame .entry)) r (now (left .entry)) (now (left .exit)) ⌝ }
 {
     let n = pairs::taken(weights.len(), frame.len(), left.len() / 2);
-    copy(n, weights, 0, left);
-    copy(n, frame, n, left);
-    let mut k = 0;
+    begin(stages, n, weights, 0, left);
+    begin(stages, n, frame, n, left);
+    let mut k = 1;
     while k < stages {
         clear(n + n, left);
         k += 1;
