@@ -1,17 +1,16 @@
 -- A row's answer, laid out for C. Its report is as it was, so what the row promises of a report is promised of the struct's; a refusal is
 -- never 0, so nothing is promised of the zeros beside it. Assumes nothing.
-use mathlib.Core.Path.{_≡_, refl, sym, ap, _∙_, subst}
+use mathlib.Core.Path.{_≡_, refl, sym, _∙_, subst}
 use Prim.Native.Nat.{ℕ, _<_}
 use native.Mathlib.Omega.{arith}
 use mathlib.Core.List.{List}
 use lib.IntN.{ℤ}
-use Rattle.designs.specs.Demand.{Demand}
 use Rattle.designs.specs.Outcomes.{Outcome, refused}
 use Rattle.designs.specs.Products.{designOf}
 use Rattle.designs.specs.Rows.{Report, report}
 use Rattle.designs.specs.Scoring.{rowOutcome, rowRefusal}
 use Rattle.designs.proofs.Refusals.{refused-with}
-use Rattle.rows.specs.Answers.{given, reportOf, Scoring, Small}
+use Rattle.rows.specs.Answers.{given, reportOf, Scoring}
 use Rattle.rows.specs.declared.Scored.{Scored}
 use Rattle.rows.specs.declared.Scored.the-variants as S
 use Rattle.capi.specs.Rows.{RowLaid, RowStruct}

@@ -4,7 +4,7 @@ use mathlib.Core.Path.{_≡_, refl, sym, ap, _∙_, subst}
 use borrow.Author.Tests.{le-ltb, lt-ltb}
 use mathlib.Core.List.{List}
 use Prim.Native.Nat.{ℕ, _+_, _-_, _^_, _≤_, _<_}
-use native.Mathlib.Nat.{add-sub-cancel-left, le-antisymm, sub-zero}
+use native.Mathlib.Nat.{add-sub-cancel-left, le-antisymm}
 use native.Mathlib.Numerals.{add-one}
 use native.Mathlib.Omega.{arith}
 use lib.IntN.{ℤ, pos, natAbs}
@@ -13,7 +13,7 @@ use lib.Seq.{getD-set-other, getD-set-same}
 use Rattle.designs.proofs.Cases.{either-lt}
 use Rattle.designs.proofs.SignedLeft.{left-next, rest-size}
 use Rattle.designs.specs.Signs.{leftℤ, restℤ}
-use Rattle.patterns.specs.Blocks.{Done, joined, place, Placed, Small}
+use Rattle.patterns.specs.Blocks.{Done, joined, place, Small}
 
 pub none-done : (g : ℕ → ℤ) (block : List ℤ) → Done g 0 block block
 none-done g block = record { size = refl; first = λ j h. absurd (omega arith); later = λ j h. refl }
@@ -58,34 +58,54 @@ module _ (n : ℕ) (f g : ℕ → ℤ) (i : ℕ) where
 pub behind : (n : ℕ) (f g : ℕ → ℤ) (k : ℕ) → joined n f g (n + k) ≡ g k
 behind n f g k = in-second n f g (n + k) (omega arith) ∙ ap g (add-sub-cancel-left n k)
 
--- what stands before a place is done, before anything is copied there
-pub kept-done : (from : ℕ) (g : ℕ → ℤ) (block : List ℤ) → Done (joined from (place block) g) from block block
-kept-done from g block = record { size = refl; first = λ j h. sym (in-first from (place block) g j h); later = λ j h. refl }
+-- what is done stands there
+pub standing : {g : ℕ → ℤ} {n : ℕ} {before after : List ℤ} → Done g n before after → Done g n after after
+standing d = record { size = refl; first = d .first; later = λ j h. refl }
 
--- two runs that have been placed, one behind the other
-module _ (n : ℕ) (f g : ℕ → ℤ) {before block after : List ℤ} (c : Placed f n 0 before block) (d : Placed g n n block after) where
-  pub both-placed : Done (joined n f g) (n + n) before after
-  both-placed =
+-- two runs of n places that are filled side by side, as far as i places of each
+pub record Both (f g : ℕ → ℤ) (n i : ℕ) (before after : List ℤ) : Type 0 where
+  pub size : length after ≡ length before
+  pub first : (j : ℕ) → j < i → place after j ≡ f j
+  pub second : (j : ℕ) → j < i → place after (n + j) ≡ g j
+  pub later : (j : ℕ) → n + n ≤ j → place after j ≡ place before j
+
+module _ {f g : ℕ → ℤ} {n : ℕ} where
+  pub none-of-both : {block : List ℤ} → Both f g n 0 block block
+  none-of-both = record { size = refl; first = λ j h. absurd (omega arith); second = λ j h. absurd (omega arith); later = λ j h. refl }
+
+  pub next-of-both : {i : ℕ} {before block : List ℤ} (u v : ℤ) → Both f g n i before block → i < n → n + n ≤ length before → u ≡ f i → v ≡ g i
+      → Both f g n (i + 1) before (set (set block i u) (n + i) v)
+  next-of-both {i} {before} {block} u v d l room eu ev =
       record {
-        size = d .done .size ∙ c .done .size;
+        size = length-set (set block i u) (n + i) v ∙ length-set block i u ∙ d .size;
+        first = λ j h. other (λ q. omega arith) ∙ either-lt j i (λ m. getD-set-other block i j u (pos 0) (λ q. omega arith) ∙ d .first j m) (λ m. here j (omega arith));
+        second = λ j h. either-lt j i (λ m. other (λ q. omega arith) ∙ getD-set-other block i (n + j) u (pos 0) (λ q. omega arith) ∙ d .second j m) (λ m. there j (omega arith));
+        later = λ j h. other (λ q. omega arith) ∙ getD-set-other block i j u (pos 0) (λ q. omega arith) ∙ d .later j h;
+      }
+    where
+      other : {j : ℕ} → (j ≡ n + i → ⊥) → place (set (set block i u) (n + i) v) j ≡ place (set block i u) j
+      other {j} q = getD-set-other (set block i u) (n + i) j v (pos 0) q
+
+      here : (j : ℕ) → j ≡ i → place (set block i u) j ≡ f j
+      here j q = rw q (getD-set-same block i u (pos 0) (omega (arith, d .size)) ∙ eu)
+
+      there : (j : ℕ) → j ≡ i → place (set (set block i u) (n + i) v) (n + j) ≡ g j
+      there j q = rw q (getD-set-same (set block i u) (n + i) v (pos 0) (omega (arith, length-set block i u, d .size)) ∙ ev)
+
+-- all places of both, by what stands there
+module _ (q : ℤ → ℤ) (n : ℕ) (f g : ℕ → ℤ) where
+  pub all-of-both : {i : ℕ} {before after : List ℤ} → Both (λ j. q (f j)) (λ j. q (g j)) n i before after → n ≤ i → Done (λ j. q (joined n f g j)) (n + n) before after
+  all-of-both {after = after} d enough =
+      record {
+        size = d .size;
         first =
-            λ j h. either-lt j n
-            (λ l. d .done .first j h ∙ in-first n (place block) g j l ∙ c .done .first j (omega arith) ∙ in-second 0 (place before) f j (omega arith) ∙ ap f (sub-zero j) ∙ sym (in-first n f g j l))
-            (λ l. d .done .first j h ∙ in-second n (place block) g j l ∙ sym (in-second n f g j l));
-        later = λ j h. d .done .later j h ∙ c .done .later j (omega arith);
+            λ j l. either-lt j n (λ m. d .first j (omega arith) ∙ sym (ap q (in-first n f g j m)))
+            (λ m. ap (place after) (omega arith) ∙ d .second (j - n) (omega arith) ∙ sym (ap q (in-second n f g j m)));
+        later = d .later;
       }
 
-  pub both-small : (j : ℕ) → j < n + n → natAbs (joined n f g j) ≤ 2 ^ 15
-  both-small j h = either-lt j n (λ l. rw (in-first n f g j l) (c .small j l)) (λ l. rw (in-second n f g j l) (d .small (j - n) (omega arith)))
-
--- what is done stands there, by any other name of it
-pub standing : {f g : ℕ → ℤ} {n : ℕ} {before after : List ℤ} → ((j : ℕ) → f j ≡ g j) → Done f n before after → Done g n after after
-standing same d = record { size = refl; first = λ j h. d .first j h ∙ same j; later = λ j h. refl }
-
-pub joined-by : (q : ℤ → ℤ) (n : ℕ) (f g : ℕ → ℤ) (j : ℕ) → joined n (λ i. q (f i)) (λ i. q (g i)) j ≡ q (joined n f g j)
-joined-by q n f g j =
-    either-lt j n (λ l. in-first n (λ i. q (f i)) (λ i. q (g i)) j l ∙ sym (ap q (in-first n f g j l)))
-    (λ l. in-second n (λ i. q (f i)) (λ i. q (g i)) j l ∙ sym (ap q (in-second n f g j l)))
+  pub both-small : ((j : ℕ) → j < n → (natAbs (q (f j)) ≤ 2 ^ 15) × (natAbs (q (g j)) ≤ 2 ^ 15)) → (j : ℕ) → j < n + n → natAbs (q (joined n f g j)) ≤ 2 ^ 15
+  both-small small j h = either-lt j n (λ l. rw (in-first n f g j l) (small j l .0)) (λ l. rw (in-second n f g j l) (small (j - n) (omega arith) .1))
 
 -- what the stages leave of numbers
 module _ (g : ℕ → ℤ) where

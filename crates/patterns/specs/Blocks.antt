@@ -26,15 +26,11 @@ pub record Small (n : ℕ) (l : List ℤ) : Type 0 where
 abbrev pub joined : ℕ → (ℕ → ℤ) → (ℕ → ℤ) → ℕ → ℤ
 joined n f g i = cond (ltb i n) (f i) (g (i - n))
 
--- There are n numbers, and places for them from `from` on.
-pub record Room (n : ℕ) (numbers : List ℤ) (from : ℕ) (block : List ℤ) : Type 0 where
-  pub enough : n ≤ length numbers
-  pub places : from + n ≤ length block
-
--- What g gives stands in n places, behind what stands before, and is small.
-pub record Placed (g : ℕ → ℤ) (n from : ℕ) (before after : List ℤ) : Type 0 where
-  pub done : Done (joined from (place before) g) (from + n) before after
-  pub small : (i : ℕ) → i < n → natAbs (g i) ≤ 2 ^ 15
+-- There are n weights and n numbers of a frame, and places for them.
+pub record Room (n : ℕ) (ws fs block : List ℤ) : Type 0 where
+  pub weights : n ≤ length ws
+  pub frame : n ≤ length fs
+  pub places : n + n ≤ length block
 
 -- What the stages leave of n weights, and behind them of n numbers of the frame, is in the first places, and small.
 pub record Left (stages : ℕ) (ws fs : List ℤ) (n : ℕ) (before after : List ℤ) : Type 0 where

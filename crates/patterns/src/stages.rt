@@ -7,7 +7,7 @@ ghost use lib.IntN.{natAbs};
 ghost use lib.ListN.{length};
 ghost use Rattle.designs.specs.Signs.{leftℤ, restℤ};
 ghost use Rattle.pairs.specs.Lengths.{pairsOf};
-ghost use Rattle.patterns.specs.Blocks.{Done, Left, place, Placed, Room, Small};
+ghost use Rattle.patterns.specs.Blocks.{Done, Left, place, Room, Small};
 use crate::powers::less_power;
 
 // What one stage leaves of x, with its sign.
@@ -41,15 +41,17 @@ fn first_rest(stages: u32, x: i32) -> i32
     signed_rest(x)
 }
 
-// What the first of the stages leaves of the first n numbers, to the places of a block from `from` on.
-fn begin(stages: u32, n: usize, numbers: &[i16], from: usize, block: &mut [i32])
-    requires { ⌜ Room n (now numbers) from (now block) ⌝ }
-    ensures { λ r. ⌜ Placed (λ i. leftℤ (min stages 1) (place (now (numbers .entry)) i)) n from (now (block .entry)) (now (block .exit)) ⌝ }
+// What the first of the stages leaves of n weights, and behind them of n numbers of the frame, to the first places of a block.
+fn begin(stages: u32, n: usize, weights: &[i16], frame: &[i16], block: &mut [i32])
+    requires { ⌜ Room n (now weights) (now frame) (now block) ⌝ }
+    ensures { λ r. ⌜ Left (min stages 1) (now (weights .entry)) (now (frame .entry)) n (now (block .entry)) (now (block .exit)) ⌝ }
 {
     let mut i = 0;
     while i < n {
-        let z = numbers[i];
-        block[from + i] = first_rest(stages, z as i32);
+        let w = weights[i];
+        let x = frame[i];
+        block[i] = first_rest(stages, w as i32);
+        block[n + i] = first_rest(stages, x as i32);
         i += 1;
     }
 }
@@ -61,8 +63,7 @@ pub fn pairs_left(stages: u32, weights: &[i16], frame: &[i16], left: &mut [i32])
     ensures { λ r. ⌜ (r ≡ pairsOf (length (now (weights .entry))) (length (now (frame .entry))) (length (now (left .entry)) / 2)) × Left stages (now (weights .entry)) (now (frame .entry)) r (now (left .entry)) (now (left .exit)) ⌝ }
 {
     let n = pairs::taken(weights.len(), frame.len(), left.len() / 2);
-    begin(stages, n, weights, 0, left);
-    begin(stages, n, frame, n, left);
+    begin(stages, n, weights, frame, left);
     let mut k = 1;
     while k < stages {
         clear(n + n, left);

@@ -1,79 +1,80 @@
--- After i turns the first i numbers stand behind what stood before, as the first of the stages leaves them, and each is small. Assumes
+-- After i turns the first i places of both runs have what the first of the stages leaves of their numbers, which is small. Assumes
 -- nothing.
 use borrow.Author.Needs.{needs}
 use borrow.Author.Count.{below-more}
-use mathlib.Core.Path.{_≡_, ap, sym, _∙_}
-use Prim.Native.Nat.{ℕ, min, _+_, _-_, _^_, _≤_, _<_}
-use native.Mathlib.Nat.{add-assoc, add-zero, le-antisymm}
+use mathlib.Core.Path.{_≡_, ap, _∙_}
+use Prim.Native.Nat.{ℕ, min, _-_, _^_, _≤_, _<_}
 use native.Mathlib.Omega.{arith}
 use lib.IntN.{ℤ, natAbs}
-use lib.ListN.{length}
+use lib.ListN.{length-set}
+use lib.Signed.{mag}
 use mir.Syntax.{w16, w32}
 use mir.Val.{SFits, toZ, ofZ}
 use Rattle.designs.specs.Signs.{leftℤ}
 use Rattle.designs.proofs.SignedLeft.{left-size}
-use Rattle.patterns.specs.Blocks.{Done, joined, place}
-use Rattle.patterns.proofs.Blocks.{behind, kept-done, next-done}
+use Rattle.patterns.specs.Blocks.{place}
+use Rattle.patterns.proofs.Blocks.{all-of-both, Both, both-small, done-small, next-of-both, none-of-both}
 use Rattle.pairs.proofs.Integers.{read-back, size16, widened, widens}
 use Rattle.patterns.proofs.stages.begin.Statement.{statement}
 use Rattle.patterns.proofs.stages.begin.Tie as tie
 
 abbrev Inv-loop : tie.InvT-loop
-Inv-loop stages n numbers from block₀ i₀ block i =
-    Done (joined from (place block₀) (λ j. leftℤ (min stages 1) (place numbers j))) (from + i) block₀ block
-    × ((j : ℕ) → j < i → natAbs (leftℤ (min stages 1) (place numbers j)) ≤ 2 ^ 15) × (i ≤ n)
+Inv-loop stages n weights frame block₀ i₀ block i =
+    let left = leftℤ (min stages 1) in
+    Both (λ j. left (place weights j)) (λ j. left (place frame j)) n i block₀ block
+    × ((j : ℕ) → j < i → (natAbs (left (place weights j)) ≤ 2 ^ 15) × (natAbs (left (place frame j)) ≤ 2 ^ 15)) × (i ≤ n)
 
 abbrev μ-loop : tie.MeasureT-loop
-μ-loop stages n numbers from block₀ i₀ block i = n - i
+μ-loop stages n weights frame block₀ i₀ block i = n - i
 
-loop-holds : tie.Need-loop-holds Inv-loop μ-loop
-loop-holds c = (rw (add-zero (c .args .from)) (kept-done (c .args .from) (λ j. leftℤ (min (c .args .stages) 1) (place (c .args .numbers .now) j)) (c .args .block .now)), λ j h. absurd (omega arith), omega arith)
+-- what the first stage leaves of a 16-bit number, as a callee gives it; and that it is small
+module _ (stages : ℕ) {z : ℤ} (fits : SFits w16 z) where
+  given : {r : ℤ} → mag r < 2 ^ 31 → r ≡ leftℤ (min stages 1) (toZ w32 (ofZ w32 (toZ w16 (ofZ w16 z)))) → toZ w32 (ofZ w32 r) ≡ leftℤ (min stages 1) z
+  given ok is = read-back ok (is ∙ ap (leftℤ (min stages 1)) (widened w32 tt fits))
 
--- a number that has been read, and what its first stage leaves
-module _ (c : tie.After-z Inv-loop μ-loop) where
+  small : natAbs (leftℤ (min stages 1) z) ≤ 2 ^ 15
+  small = omega (arith, left-size (min stages 1) z, size16 fits)
+
+-- a pair that has been read
+module _ (c : tie.After-x Inv-loop μ-loop) where
   abbrev loop : tie.At-loop Inv-loop μ-loop
-  loop = c .before .before
+  loop = c .before .before .before
 
   abbrev start : tie.Start Inv-loop μ-loop
   start = loop .before
 
-  abbrev i : ℕ
-  i = loop .loop .i
+  w-fits : SFits w16 (place (start .args .weights .now) (loop .loop .i))
+  w-fits = record { sfits = c .before .w .given }
 
-  abbrev z : ℤ
-  z = place (start .args .numbers .now) i
+  x-fits : SFits w16 (place (start .args .frame .now) (loop .loop .i))
+  x-fits = record { sfits = c .x .given }
 
-  fits : SFits w16 z
-  fits = record { sfits = c .z .given }
-
-  wide : toZ w32 (ofZ w32 (toZ w16 (ofZ w16 z))) ≡ z
-  wide = widened w32 tt fits
-
-  small : natAbs (leftℤ (min (start .args .stages) 1) z) ≤ 2 ^ 15
-  small = omega (arith, left-size (min (start .args .stages) 1) z, size16 fits)
-
-  inside : start .args .from + i < length (start .args .block .now)
-  inside = omega (arith, c .before .loop-test .taken, start .pre .places)
+second-place : tie.Need-slice-set-from-block-2 Inv-loop μ-loop
+second-place c =
+    let t = c .before .before in
+    omega (arith, length-set (loop t .loop .block) (loop t .loop .i) (toZ w32 (ofZ w32 (c .before .first-rest .result))), t .before .before .loop-test .taken, loop t .loop .inv .0 .size, start t .pre .places)
 
 loop-again : tie.Need-loop-again Inv-loop μ-loop
 loop-again c =
-    let t = c .before in
-    let from = start t .args .from in
-    let left = leftℤ (min (start t .args .stages) 1) in
-    let inv = loop t .loop .inv in (
-      rw (sym (add-assoc from (i t) 1)) (
-          next-done _ (from + i t) _ (inv .0) (inside t)
-          (read-back (c .first-rest .ok) (c .first-rest .ensures ∙ ap left (wide t)) ∙ sym (behind from (place (start t .args .block .now)) (λ j. left (place (start t .args .numbers .now) j)) (i t)))
-          ),
-      below-more _ _ (inv .1) (small t),
+    let first = c .before in
+    let pair = first .before in
+    let at = loop pair .loop in
+    let stages = start pair .args .stages in (
+      next-of-both _ _ (at .inv .0) (pair .before .before .loop-test .taken) (start pair .pre .places) (given stages (w-fits pair) (first .first-rest .ok) (first .first-rest .ensures))
+          (given stages (x-fits pair) (c .first-rest2 .ok) (c .first-rest2 .ensures)),
+      below-more _ _ (at .inv .1) (small stages (w-fits pair), small stages (x-fits pair)),
       omega arith,
     )
 
 returns : tie.Need-returns Inv-loop μ-loop
 returns c =
+    let start = c .before .before in
     let loop = c .before .loop in
-    let all = le-antisymm (loop .inv .2) (c .loop-test .left) in
-    record { done = rw (sym all) (loop .inv .0); small = rw (sym all) (loop .inv .1) }
+    let left = leftℤ (min (start .args .stages) 1) in
+    let ws = place (start .args .weights .now) in
+    let fs = place (start .args .frame .now) in
+    let done = all-of-both left (start .args .n) ws fs (loop .inv .0) (c .loop-test .left) in
+    record { done = done; small = done-small done (start .pre .places) (both-small left (start .args .n) ws fs (λ j h. loop .inv .1 j (omega (arith, c .loop-test .left)))) }
 
 pub begin-spec : {M : Type 1} → statement M
 begin-spec =
@@ -81,14 +82,20 @@ begin-spec =
     (tie.spec
     Inv-loop
     μ-loop
-    loop-holds
+    (λ c. (none-of-both, λ j h. absurd (omega arith), omega arith))
+    (λ c. search needs)
+    (λ c. omega (arith, c .loop-test .taken, c .before .before .pre .weights))
+    (λ c. search needs)
+    (λ c. omega (arith, c .before .loop-test .taken, c .before .before .before .pre .frame))
+    (λ c. widens tt (w-fits c))
+    (λ c κs. rw (widened w32 tt (w-fits c)) (size16 (w-fits c)))
+    (λ c. search needs)
+    (λ c. let t = c .before in omega (arith, t .before .before .loop-test .taken, loop t .loop .inv .0 .size, start t .pre .places))
+    (λ c. widens tt (x-fits (c .before)))
+    (λ c κs. rw (widened w32 tt (x-fits (c .before))) (size16 (x-fits (c .before))))
     (λ c. search needs)
     (λ c. search needs)
-    (λ c. widens tt (fits c))
-    (λ c κs. rw (wide c) (size16 (fits c)))
-    (λ c. search needs)
-    (λ c. search needs)
-    (λ c. search needs)
+    second-place
     (λ c. search needs)
     (λ c. search needs)
     loop-again

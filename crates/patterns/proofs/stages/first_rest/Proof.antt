@@ -1,5 +1,4 @@
 -- Without stages nothing is taken off, and otherwise the first takes a power off. Assumes nothing.
-use borrow.Author.Needs.{needs}
 use mathlib.Core.Path.{_≡_, ap, sym, _∙_}
 use Prim.Native.Nat.{min}
 use native.Mathlib.Omega.{arith}
