@@ -1,6 +1,6 @@
 -- A row that goes pair by pair, by any design: with the residue of the next pair a turn can be made, and after all pairs the row is
 -- complete. Assumes nothing.
-use mathlib.Core.Path.{_≡_, ap₂, _∙_}
+use mathlib.Core.Path.{_≡_, refl, ap, ap₂, _∙_}
 use Prim.Native.Nat.{ℕ, _+_, _^_, _≤_, _<_}
 use native.Mathlib.Omega.{arith}
 use mathlib.Core.List.{List}
@@ -40,9 +40,10 @@ module _ {D : Design} {ws fs before : List ℤ} where
   pub gone : {after : List ℤ} {at : ℕ} {s : Sums} → Going D ws fs before after at s → length ws ≤ at → Complete D ws fs before after s
   gone {at = at} so-far h = let end : length ws ≡ at = omega (arith, so-far .inside) in rw end (so-far .reached)
 
-  pub next : {after : List ℤ} {at : ℕ} {s : Sums} {r : ℤ} → Ready D ws fs before → Going D ws fs before after at s → at < length ws → mag (place ws at) < 2 ^ 15 → mag (place fs at) < 2 ^ 15
-      → mag r < 2 ^ 31 → r ≡ residue D (toZ w16 (ofZ w16 (place ws at))) (toZ w16 (ofZ w16 (place fs at))) → Next D ws fs before after at s r
-  next {at = at} ready so-far h hw hx hr e =
+  -- with the residue by a design that has another name too
+  pub next-as : {E : Design} → E ≡ D → {after : List ℤ} {at : ℕ} {s : Sums} {r : ℤ} → Ready D ws fs before → Going D ws fs before after at s → at < length ws → mag (place ws at) < 2 ^ 15
+      → mag (place fs at) < 2 ^ 15 → mag r < 2 ^ 31 → r ≡ residue E (toZ w16 (ofZ w16 (place ws at))) (toZ w16 (ofZ w16 (place fs at))) → Next D ws fs before after at s r
+  next-as {E} same {at = at} ready so-far h hw hx hr e =
       let w : toZ w16 (ofZ w16 (place ws at)) ≡ place ws at = toZ-ofZ (record { sfits = hw }) in
       let x : toZ w16 (ofZ w16 (place fs at)) ≡ place fs at = toZ-ofZ (record { sfits = hx }) in
       record {
@@ -51,5 +52,9 @@ module _ {D : Design} {ws fs before : List ℤ} where
         room = omega (arith, ready .places);
         weight = w;
         number = x;
-        is = read-back hr (e ∙ ap₂ (residue D) w x);
+        is = read-back hr (e ∙ ap₂ (residue E) w x ∙ ap (λ (X : Design). ofPair (residue X) ws fs at) same);
       }
+
+  pub next : {after : List ℤ} {at : ℕ} {s : Sums} {r : ℤ} → Ready D ws fs before → Going D ws fs before after at s → at < length ws → mag (place ws at) < 2 ^ 15 → mag (place fs at) < 2 ^ 15
+      → mag r < 2 ^ 31 → r ≡ residue D (toZ w16 (ofZ w16 (place ws at))) (toZ w16 (ofZ w16 (place fs at))) → Next D ws fs before after at s r
+  next = next-as refl

@@ -5,23 +5,38 @@ use Rattle.capi.proofs.RowAnswer.{laid-out}
 use Rattle.capi.proofs.highvane_score_row.Statement.{statement}
 use Rattle.capi.proofs.highvane_score_row.Tie as tie
 
+returns : tie.Need-returns
+returns c = rw (c .before .before .before .if1 .taken) (c .before .highvane-score-row-mitchell .ensures)
+
+returns-2 : tie.Need-returns-2
+returns-2 c = rw (c .before .before .before .if2 .taken) (c .before .highvane-score-row-nearest .ensures)
+
+returns-3 : tie.Need-returns-3
+returns-3 c = rw (c .before .before .before .if3 .taken) (c .before .highvane-score-row-staged .ensures)
+
+returns-4 : tie.Need-returns-4
+returns-4 c = rw (c .before .before .before .if4 .taken) (c .before .highvane-score-row-truncated .ensures)
+
+returns-5 : tie.Need-returns-5
+returns-5 c =
+    let none = c .before in
+    laid-out _ (unknown _ _ (none .before .before .before .if1 .left) (none .before .before .if2 .left) (none .before .if3 .left) (none .if4 .left)) (c .laid .ensures)
+
 pub highvane-score-row-spec : {M : Type 1} → statement M
 highvane-score-row-spec =
     tie.close
     (tie.spec
     (λ c κs. search needs)
     (λ c. search needs)
-    (λ c. rw (c .before .before .before .if1 .taken) (c .before .highvane-score-row-mitchell .ensures))
+    returns
     (λ c κs. search needs)
     (λ c. search needs)
-    (λ c. rw (c .before .before .before .if2 .taken) (c .before .highvane-score-row-nearest .ensures))
+    returns-2
     (λ c κs. search needs)
     (λ c. search needs)
-    (λ c. rw (c .before .before .before .if3 .taken) (c .before .highvane-score-row-staged .ensures))
+    returns-3
     (λ c κs. search needs)
     (λ c. search needs)
-    (λ c. rw (c .before .before .before .if4 .taken) (c .before .highvane-score-row-truncated .ensures))
+    returns-4
     (λ c κs. search needs)
-    (λ c.
-    let last = c .before in
-    laid-out _ (unknown _ _ (last .before .before .before .if1 .left) (last .before .before .if2 .left) (last .before .if3 .left) (last .if4 .left)) (c .laid .ensures)))
+    returns-5)

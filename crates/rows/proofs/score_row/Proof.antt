@@ -4,20 +4,35 @@ use Rattle.rows.proofs.RowOutcome.{unknown}
 use Rattle.rows.proofs.score_row.Statement.{statement}
 use Rattle.rows.proofs.score_row.Tie as tie
 
+returns : tie.Need-returns
+returns c = rw (c .before .before .before .if1 .taken) (c .before .score-row-mitchell .ensures)
+
+returns-2 : tie.Need-returns-2
+returns-2 c = rw (c .before .before .before .if2 .taken) (c .before .score-row-nearest .ensures)
+
+returns-3 : tie.Need-returns-3
+returns-3 c = rw (c .before .before .before .if3 .taken) (c .before .score-row-staged .ensures)
+
+returns-4 : tie.Need-returns-4
+returns-4 c = rw (c .before .before .before .if4 .taken) (c .before .score-row-truncated .ensures)
+
+returns-5 : tie.Need-returns-5
+returns-5 c = unknown _ _ (c .before .before .before .if1 .left) (c .before .before .if2 .left) (c .before .if3 .left) (c .if4 .left)
+
 pub score-row-spec : {M : Type 1} → statement M
 score-row-spec =
     tie.close
     (tie.spec
     (λ c κs. search needs)
     (λ c. search needs)
-    (λ c. rw (c .before .before .before .if1 .taken) (c .before .score-row-mitchell .ensures))
+    returns
     (λ c κs. search needs)
     (λ c. search needs)
-    (λ c. rw (c .before .before .before .if2 .taken) (c .before .score-row-nearest .ensures))
+    returns-2
     (λ c κs. search needs)
     (λ c. search needs)
-    (λ c. rw (c .before .before .before .if3 .taken) (c .before .score-row-staged .ensures))
+    returns-3
     (λ c κs. search needs)
     (λ c. search needs)
-    (λ c. rw (c .before .before .before .if4 .taken) (c .before .score-row-truncated .ensures))
-    (λ c. unknown _ _ (c .before .before .before .if1 .left) (c .before .before .if2 .left) (c .before .if3 .left) (c .if4 .left)))
+    returns-4
+    returns-5)

@@ -4,6 +4,12 @@ use Rattle.rows.proofs.RowOutcome.{ready, refuse, room, score}
 use Rattle.rows.proofs.score_row_nearest.Statement.{statement}
 use Rattle.rows.proofs.score_row_nearest.Tie as tie
 
+returns-2 : tie.Need-returns-2
+returns-2 c = let judged = c .before .before .before .before .before in score 2 _ _ _ _ (judged .before .of-row .ensures) (judged .if1 .left) (c .before .before .nearest .ensures) (c .report-of .ensures)
+
+returns-3 : tie.Need-returns-3
+returns-3 c = let judged = c .before .before .before .before .before in score 2 _ _ _ _ (judged .before .of-row .ensures) (judged .if1 .left) (c .before .before .nearest2 .ensures) (c .report-of2 .ensures)
+
 pub score-row-nearest-spec : {M : Type 1} → statement M
 score-row-nearest-spec =
     tie.close
@@ -13,8 +19,8 @@ score-row-nearest-spec =
     (λ c κs. let judged = c .before .before in ready 2 _ _ _ _ (judged .before .of-row .ensures) (judged .if1 .left))
     (λ c κs. let judged = c .before .before .before .before in room 2 _ _ _ _ (judged .before .of-row .ensures) (judged .if1 .left) (c .before .nearest .ensures))
     (λ c. search needs)
-    (λ c. let judged = c .before .before .before .before .before in score 2 _ _ _ _ (judged .before .of-row .ensures) (judged .if1 .left) (c .before .before .nearest .ensures) (c .report-of .ensures))
+    returns-2
     (λ c κs. let judged = c .before .before in ready 2 _ _ _ _ (judged .before .of-row .ensures) (judged .if1 .left))
     (λ c κs. let judged = c .before .before .before .before in room 2 _ _ _ _ (judged .before .of-row .ensures) (judged .if1 .left) (c .before .nearest2 .ensures))
     (λ c. search needs)
-    (λ c. let judged = c .before .before .before .before .before in score 2 _ _ _ _ (judged .before .of-row .ensures) (judged .if1 .left) (c .before .before .nearest2 .ensures) (c .report-of2 .ensures)))
+    returns-3)

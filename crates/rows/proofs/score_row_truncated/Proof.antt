@@ -4,6 +4,9 @@ use Rattle.rows.proofs.RowOutcome.{ready, refuse, room, score}
 use Rattle.rows.proofs.score_row_truncated.Statement.{statement}
 use Rattle.rows.proofs.score_row_truncated.Tie as tie
 
+returns-2 : tie.Need-returns-2
+returns-2 c = let judged = c .before .before .before .before in score 4 _ _ _ _ (judged .before .of-row .ensures) (judged .if1 .left) (c .before .before .truncated .ensures) (c .report-of .ensures)
+
 pub score-row-truncated-spec : {M : Type 1} → statement M
 score-row-truncated-spec =
     tie.close
@@ -13,4 +16,4 @@ score-row-truncated-spec =
     (λ c κs. let judged = c .before in ready 4 _ _ _ _ (judged .before .of-row .ensures) (judged .if1 .left))
     (λ c κs. let judged = c .before .before .before in room 4 _ _ _ _ (judged .before .of-row .ensures) (judged .if1 .left) (c .before .truncated .ensures))
     (λ c. search needs)
-    (λ c. let judged = c .before .before .before .before in score 4 _ _ _ _ (judged .before .of-row .ensures) (judged .if1 .left) (c .before .before .truncated .ensures) (c .report-of .ensures)))
+    returns-2)

@@ -1,9 +1,10 @@
 -- Each turn brings the residue of its pair, and `turn` takes what was reached a pair further. Assumes nothing.
 use borrow.Author.Needs.{needs}
+use mathlib.Core.Path.{ap}
 use Prim.Native.Nat.{_-_}
 use lib.ListN.{length}
 use Rattle.designs.specs.Designs.{truncated}
-use Rattle.rows.proofs.OneByOne.{begun, Going, gone, next, Next, on}
+use Rattle.rows.proofs.OneByOne.{begun, Going, gone, Next, next-as, on}
 use Rattle.rows.proofs.one_by_one.truncated.Statement.{statement}
 use Rattle.rows.proofs.one_by_one.truncated.Tie as tie
 
@@ -18,7 +19,7 @@ next-pair : (c : tie.After-truncated-residue Inv-loop μ-loop) → let at = c .b
     Next (truncated (a .kept-bits)) (a .weights .now) (a .frame .now) (a .residues .now) (at .loop .residues) (at .loop .at) (at .loop .sums) (c .truncated-residue .result)
 next-pair c =
     let test = c .before .before .before in
-    next (test .before .before .before .pre) (test .before .loop .inv) (test .loop-test .taken) (c .before .before .w .given) (c .before .x .given) (c .truncated-residue .ok) (rw (test .before .before .before .pre .kept) at (c .truncated-residue .ensures))
+    next-as (ap truncated (test .before .before .before .pre .kept)) (test .before .before .before .pre) (test .before .loop .inv) (test .loop-test .taken) (c .before .before .w .given) (c .before .x .given) (c .truncated-residue .ok) (c .truncated-residue .ensures)
 
 pub truncated-spec : {M : Type 1} → statement M
 truncated-spec =
