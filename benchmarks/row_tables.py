@@ -1,5 +1,5 @@
 """The tables of scored rows, each as its head and its lines, and where there are several, each with its title first. `table` prints one."""
-from measure import BEST_ROWS, C_ROWS, OURS, ROWS, Code, run_bytes, times
+from measure import BEST_ROWS, BY_ITSELF, C_ROWS, OURS, ROWS, Code, run_bytes, times
 
 PAIRS = 4096
 DESIGNS = {(1, 0): '1', (2, 0): '2', (3, 1): '3, s = 1', (3, 2): '3, s = 2', (3, 4): '3, s = 4', (3, 16): '3, s = 16',
@@ -103,6 +103,26 @@ def growth_tables(rows):
             body.append([label, *(number(n) for n in (empty, *three)), *(f'{slope:.2f}' for slope in slopes)])
         tables.append((title, head, body))
     return tables
+
+
+def own_table(rows):
+    """The row of each design by itself, and what deciding between them adds. A pair takes the same either way, and by design 4 with every
+    setting, or else a loop would choose; where it does not, this stops."""
+    keys = {key: label for key, label in DESIGNS.items() if key[0] != 4} | {(4, t): '4, every t' for t in range(1, 16)}
+    body = {}
+    for (design, setting), label in keys.items():
+        own, any_design = ([rows.count(name, 'uniform', design, setting, n) for n in (*LENGTHS, 2 * 64)] for name in (BY_ITSELF[design], OURS))
+        added = [b - a for a, b in zip(own, any_design)]
+        cells = [label, *(number(n) for n in own[:3]), f'{(own[2] - own[1]) / (LENGTHS[2] - LENGTHS[1]):.2f}', number(added[1])]
+        if rows.found and (len({added[1], *added[2:]}) > 1 or body.get(label, cells) != cells):
+            raise SystemExit(f'benchmarks: a row of design {design} with setting {setting} does not choose once: {own}, {any_design}')
+        body[label] = cells
+    return ['design', *(f'{n:,}' for n in LENGTHS), 'a pair, 64 to 4,096', 'by any design, more'], list(body.values())
+
+
+def own_code_table(program):
+    code = Code(program)
+    return ['row', 'bytes'], [[f'`{name}`', number(sum(size for _, size, _ in code.sizes(name)))] for name in (*BY_ITSELF.values(), OURS)]
 
 
 def refusal_table(rows):

@@ -5,7 +5,8 @@
  *                pairs it compared, and how many of 4,096 pairs of small numbers hold a 0
  *   rows time    reads lines "design setting pairs", and for each prints what a call of each implementation takes, in nanoseconds
  *   rows         reads lines "implementation data design setting weights frame places" (the last three are lengths), and for each
- *                makes one call and has callgrind write the instructions of that call under the line as its name
+ *                makes one call and has callgrind write the instructions of that call under the line as its name; the row of a
+ *                design by itself is an implementation too
  */
 #include <stdio.h>
 #include <stdlib.h>
@@ -29,6 +30,18 @@ static const struct {
 #define X(name) {#name, name},
     IMPLEMENTATIONS
 #undef X
+};
+
+/* each is called with the setting alone */
+static const struct {
+    const char *name;
+    highvane_report (*call)(uint32_t setting, const int16_t *weights, size_t weights_len, const int16_t *frame, size_t frame_len,
+                            int64_t *residues, size_t residues_len);
+} by_itself[] = {
+    {"highvane_score_row_mitchell", highvane_score_row_mitchell},
+    {"highvane_score_row_nearest", highvane_score_row_nearest},
+    {"highvane_score_row_staged", highvane_score_row_staged},
+    {"highvane_score_row_truncated", highvane_score_row_truncated},
 };
 
 enum { COUNT = sizeof implementations / sizeof *implementations, PAIRS = HIGHVANE_PAIRS_MAX, ROUNDS = 301 };
@@ -127,6 +140,13 @@ static void measure(const char *line) {
         if (!strcmp(implementations[i].name, name)) {
             CALLGRIND_ZERO_STATS;
             implementations[i].call(design, setting, weights, weights_len, frame, frame_len, residues[i], places);
+            CALLGRIND_DUMP_STATS_AT(line);
+            return;
+        }
+    for (size_t i = 0; i < sizeof by_itself / sizeof *by_itself; i++)
+        if (!strcmp(by_itself[i].name, name)) {
+            CALLGRIND_ZERO_STATS;
+            by_itself[i].call(setting, weights, weights_len, frame, frame_len, residues[0], places);
             CALLGRIND_DUMP_STATS_AT(line);
             return;
         }

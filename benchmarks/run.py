@@ -13,9 +13,9 @@ from pathlib import Path
 
 sys.dont_write_bytecode = True  # nothing is to appear in the repository
 
-from measure import ALL_ROWS, ROWS, archive_of, build, counts, output  # noqa: E402
-from row_tables import (DESIGNS, Rows, code_table, design_code_table, growth_tables, number, pair_tables,  # noqa: E402
-                        refusal_table, stage_table, table, time_tables, wrong_table)
+from measure import ALL_ROWS, BY_ITSELF, ROWS, archive_of, build, counts, output  # noqa: E402
+from row_tables import (DESIGNS, Rows, code_table, design_code_table, growth_tables, number, own_code_table,  # noqa: E402
+                        own_table, pair_tables, refusal_table, stage_table, table, time_tables, wrong_table)
 
 OPERATIONS = {'unsigned': 'product_unsigned', 'signed': 'product_signed', 'single': 'single_product', 'table': 'table_product',
               'scale': 'scale', 'row_refusal': 'row_refusal', 'transcript': 'transcript'}
@@ -81,10 +81,14 @@ def print_tables(rows, folder, agreed):
     table(*wrong_table(rows))
     print('### Scoring a row: code bytes, with all that is called\n')
     table(*code_table(folder / 'rows'))
+    print('A program that calls one of these alone links no more than its bytes:\n')
+    table(*own_code_table(folder / 'rows'))
     print('The bytes of it that rows of a design run, one of 4,095 pairs and one of three; all designs share the sums:\n')
     table(*design_code_table(folder / 'rows'))
     print('### How a row grows: instructions of a whole call\n')
     titled(growth_tables(rows))
+    print('The row of a design by itself on uniform numbers, and how many instructions more it takes by way of `highvane_score_row`:\n')
+    table(*own_table(rows))
     print('A refused row, by its length:\n')
     table(*refusal_table(rows))
     print('Stages: instructions a pair, and how many more than with one stage less. The most stages that a pair can need are')
@@ -106,9 +110,9 @@ def main():
         build(archive, folder)
         agreed = output([folder / 'rows', 'check'])
         rows = Rows()
-        for ask in (pair_tables, wrong_table, growth_tables, refusal_table, stage_table):
+        for ask in (pair_tables, wrong_table, growth_tables, own_table, refusal_table, stage_table):
             ask(rows)
-        rows.found, _ = counts(folder / 'rows', ROWS, list(dict.fromkeys(rows.asked)))
+        rows.found, _ = counts(folder / 'rows', [*ROWS, *BY_ITSELF.values()], list(dict.fromkeys(rows.asked)))
         print_tables(rows, folder, agreed)
 
 

@@ -91,6 +91,14 @@ int main(void) {
             (uint64_t)residues, 64);
     }
     print("highvane_score_row");
+#define ROW_BY_ITSELF(row, design)                                                                                              \
+    TRY(row, (uint64_t)&report, setting_of(design, 16), (uint64_t)weights, 64, (uint64_t)frame, 64, (uint64_t)residues, 64);      \
+    TRY(row, (uint64_t)&report, setting_of(design, 16), (uint64_t)weights, 3, (uint64_t)frame, 3, (uint64_t)residues, 3);         \
+    print(#row)
+    ROW_BY_ITSELF(highvane_score_row_mitchell, HIGHVANE_MITCHELL);
+    ROW_BY_ITSELF(highvane_score_row_nearest, HIGHVANE_NEAREST_POWER);
+    ROW_BY_ITSELF(highvane_score_row_staged, HIGHVANE_STAGED);
+    ROW_BY_ITSELF(highvane_score_row_truncated, HIGHVANE_TRUNCATED);
     for (uint64_t design = 0; design <= 5; design++)
         TRY(highvane_product_unsigned, design, 32, setting_of(design, 32), UINT32_MAX, UINT32_MAX);
     print("highvane_product_unsigned");

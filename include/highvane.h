@@ -30,7 +30,7 @@ extern "C" {
 
 /* The version. Code that works with one version works, compiled again, with every later one of the same first number. */
 #define HIGHVANE_VERSION_MAJOR 2
-#define HIGHVANE_VERSION_MINOR 1
+#define HIGHVANE_VERSION_MINOR 2
 #define HIGHVANE_VERSION_PATCH 0
 
 /* The designs, each with the settings that it takes at width w; rows have width 16. */
@@ -142,6 +142,20 @@ highvane_signed highvane_product_signed(uint32_t design, uint32_t width, uint32_
  */
 highvane_report highvane_score_row(uint32_t design, uint32_t setting, const int16_t *weights, size_t weights_len,
                                    const int16_t *frame, size_t frame_len, int64_t *residues, size_t residues_len);
+
+/*
+ * The row by one design: what highvane_score_row gives and writes with that design, bit for bit. The first two take the setting too,
+ * and refuse all but 0. A program that calls one of these, and is linked with --gc-sections, holds that design's row alone.
+ * Refusals: 3, 5, 6, 7.
+ */
+highvane_report highvane_score_row_mitchell(uint32_t setting, const int16_t *weights, size_t weights_len, const int16_t *frame,
+                                            size_t frame_len, int64_t *residues, size_t residues_len);
+highvane_report highvane_score_row_nearest(uint32_t setting, const int16_t *weights, size_t weights_len, const int16_t *frame,
+                                           size_t frame_len, int64_t *residues, size_t residues_len);
+highvane_report highvane_score_row_staged(uint32_t setting, const int16_t *weights, size_t weights_len, const int16_t *frame,
+                                          size_t frame_len, int64_t *residues, size_t residues_len);
+highvane_report highvane_score_row_truncated(uint32_t setting, const int16_t *weights, size_t weights_len, const int16_t *frame,
+                                             size_t frame_len, int64_t *residues, size_t residues_len);
 
 /*
  * Judges a row of a weight store, in which rows of `columns` weights lie one after another, the first numbered 0. Gives 0 where

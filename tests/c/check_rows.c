@@ -42,6 +42,24 @@ static int same_report(const highvane_report *a, const highvane_report *b) {
            && a->nonzero_pairs == b->nonzero_pairs && a->refusal == b->refusal;
 }
 
+/* The row of a design by itself: the report and every place are those of the row with that design. */
+static void by_itself(uint32_t design, uint32_t setting, size_t weights_len, size_t frame_len, size_t places, enum place place,
+                      const highvane_report *due) {
+    static highvane_report (*const rows[])(uint32_t, const int16_t *, size_t, const int16_t *, size_t, int64_t *, size_t) = {
+        highvane_score_row_mitchell, highvane_score_row_nearest, highvane_score_row_staged, highvane_score_row_truncated};
+    if (design < 1 || design > COUNT(rows)) return;
+    static int64_t residues_due[MOST];
+    memcpy(residues_due, residues, sizeof residues);
+    int64_t *written = lend_places(places, place);
+    highvane_report given = rows[design - 1](setting, lend(&weights_memory, weights, weights_len * sizeof *weights, place), weights_len,
+                                             lend(&frame_memory, frame, frame_len * sizeof *frame, place), frame_len, written, places);
+    compare(same_report(&given, due), "design %" PRIu32 ", setting %" PRIu32 " by itself: refusal %" PRIu32 ", score %" PRId64
+            ", and with the design refusal %" PRIu32 ", score %" PRId64, design, setting, given.refusal, given.score, due->refusal, due->score);
+    compare_lent(&residues_memory, residues_due, "a row by itself, residues");
+    compare_lent(&weights_memory, weights, "a row by itself, weights");
+    compare_lent(&frame_memory, frame, "a row by itself, frame");
+}
+
 /* Slices that are only read may overlap: with a frame that begins `apart` places into the weights, the answer is that of a copy. */
 static void overlapping(uint32_t design, uint32_t setting, size_t length, size_t apart, enum place place) {
     static int64_t residues_of_copy[MOST];
@@ -83,6 +101,7 @@ void row_vector(vector *v) {
         compare_lent(&residues_memory, residues, "highvane_score_row, residues");
         compare_lent(&weights_memory, weights, "highvane_score_row, weights");
         compare_lent(&frame_memory, frame, "highvane_score_row, frame");
+        by_itself(design, setting, weights_len, frame_len, places, place, &given);
         overlapping(design, setting, weights_len, weights_len > 0 && place == AT_END, place);
     }
 }

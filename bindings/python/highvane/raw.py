@@ -32,7 +32,7 @@ class Signed(ctypes.Structure):
 
 
 class Report(ctypes.Structure):
-    """The answer of highvane_score_row."""
+    """The answer of highvane_score_row and of the rows by one design."""
     _fields_ = [('score', c_int64), ('true_sum', c_int64), ('error', c_int64), ('magnitude_sum', c_uint64), ('nonzero_pairs', c_uint64),
                 ('refusal', c_uint32)]
 
@@ -60,6 +60,11 @@ def _function(name, answer, *parameters):
 highvane_product_unsigned = _function('highvane_product_unsigned', Unsigned, c_uint32, c_uint32, c_uint32, c_uint64, c_uint64)
 highvane_product_signed = _function('highvane_product_signed', Signed, c_uint32, c_uint32, c_uint32, c_int64, c_int64)
 highvane_score_row = _function('highvane_score_row', Report, c_uint32, c_uint32, c_void_p, c_size_t, c_void_p, c_size_t, c_void_p, c_size_t)
+_BY_ITSELF = c_uint32, c_void_p, c_size_t, c_void_p, c_size_t, c_void_p, c_size_t
+highvane_score_row_mitchell = _function('highvane_score_row_mitchell', Report, *_BY_ITSELF)
+highvane_score_row_nearest = _function('highvane_score_row_nearest', Report, *_BY_ITSELF)
+highvane_score_row_staged = _function('highvane_score_row_staged', Report, *_BY_ITSELF)
+highvane_score_row_truncated = _function('highvane_score_row_truncated', Report, *_BY_ITSELF)
 highvane_row_refusal = _function('highvane_row_refusal', c_uint32, c_void_p, c_size_t, c_size_t, c_size_t)
 highvane_scale = _function('highvane_scale', Scaled, c_int64, c_uint64, c_uint32)
 highvane_single_product = _function('highvane_single_product', Single, c_uint32, c_uint32)

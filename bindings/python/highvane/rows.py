@@ -34,10 +34,53 @@ def score_row(design, setting, weights, frame, residues):
     >>> residues.tolist()
     [1, -2, 0, 99]
     """
-    design, setting = u32('design', design), u32('setting', setting)
+    return _scored(raw.highvane_score_row, [u32('design', design), u32('setting', setting)], weights, frame, residues)
+
+
+def score_row_mitchell(setting, weights, frame, residues):
+    """score_row by design 1, Mitchell's; it takes the setting 0. It refuses, in this order: 3, 5, 6, 7.
+
+    >>> from array import array
+    >>> score_row_mitchell(0, array('h', [3, -5, 0]), array('h', [3, 6, 7]), array('q', [0, 0, 0])).score
+    -20
+    """
+    return _scored(raw.highvane_score_row_mitchell, [u32('setting', setting)], weights, frame, residues)
+
+
+def score_row_nearest(setting, weights, frame, residues):
+    """score_row by design 2, the nearest power; it takes the setting 0. It refuses, in this order: 3, 5, 6, 7.
+
+    >>> from array import array
+    >>> score_row_nearest(0, array('h', [3, -5, 0]), array('h', [3, 6, 7]), array('q', [0, 0, 0])).score
+    -24
+    """
+    return _scored(raw.highvane_score_row_nearest, [u32('setting', setting)], weights, frame, residues)
+
+
+def score_row_staged(setting, weights, frame, residues):
+    """score_row by design 3; the setting is the number of stages, 1 to 16. It refuses, in this order: 3, 5, 6, 7.
+
+    >>> from array import array
+    >>> score_row_staged(2, array('h', [3, -5, 0]), array('h', [3, 6, 7]), array('q', [0, 0, 0])).score
+    -21
+    """
+    return _scored(raw.highvane_score_row_staged, [u32('setting', setting)], weights, frame, residues)
+
+
+def score_row_truncated(setting, weights, frame, residues):
+    """score_row by design 4; the setting is the number of kept bits, 1 to 15. It refuses, in this order: 3, 5, 6, 7.
+
+    >>> from array import array
+    >>> score_row_truncated(6, array('h', [3, -5, 0]), array('h', [3, 6, 7]), array('q', [0, 0, 0])).score
+    -20
+    """
+    return _scored(raw.highvane_score_row_truncated, [u32('setting', setting)], weights, frame, residues)
+
+
+def _scored(row, numbers, weights, frame, residues):
     with lent('weights', weights, I16) as w, lent('frame', frame, I16) as f, lent('residues', residues, I64, is_written=True) as r:
         r.refuse_overlap(w)
         r.refuse_overlap(f)
-        answer = raw.highvane_score_row(design, setting, w.start, w.length, f.start, f.length, r.start, r.length)
+        answer = row(*numbers, w.start, w.length, f.start, f.length, r.start, r.length)
     judged(answer.refusal)
     return Report(*(getattr(answer, field.name) for field in dataclasses.fields(Report)))

@@ -92,7 +92,9 @@ WRONG_RECORDS = {
 
 
 def score(weights, frame, residues):
-    return highvane.score_row(1, 0, weights, frame, residues)
+    """By way of both, which lend alike: what the second writes is what the first wrote."""
+    highvane.score_row(1, 0, weights, frame, residues)
+    return highvane.score_row_mitchell(0, weights, frame, residues)
 
 
 class Lending(unittest.TestCase):
@@ -183,7 +185,8 @@ class Lending(unittest.TestCase):
                   array('q', [0] * 4), room, room[1:9].cast('q'), room[:8].cast('h'), room[8:32].cast('q'), (ctypes.c_int16 * 4)(),
                   (ctypes.c_int64 * 4)()]
         calls = [(highvane.unsigned_product, 5), (highvane.signed_product, 5), (highvane.table_product, 2), (highvane.score_row, 5),
-                 (highvane.row_of, 3), (highvane.row_refusal, 3), (highvane.scale, 3), (highvane.single_product, 2),
+                 (highvane.score_row_mitchell, 4), (highvane.score_row_nearest, 4), (highvane.score_row_staged, 4),
+                 (highvane.score_row_truncated, 4), (highvane.row_of, 3), (highvane.row_refusal, 3), (highvane.scale, 3), (highvane.single_product, 2),
                  (highvane.single_product_of_bits, 2), (highvane.transcript, 1)]
         chosen = random.Random(1)
         for _ in range(20000):

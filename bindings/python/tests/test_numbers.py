@@ -13,6 +13,10 @@ def scored(design, setting):
     return highvane.score_row(design, setting, STORE, STORE, array('q', [0] * 4))
 
 
+def by_itself(row):
+    return lambda setting: row(setting, STORE, STORE, array('q', [0] * 4))
+
+
 def found(call):
     return lambda columns, row: call(STORE, columns, row)
 
@@ -23,6 +27,10 @@ FUNCTIONS = [
     (highvane.signed_product, {'design': U32, 'width': U32, 'setting': U32, 'a': I64, 'b': I64}, (1, 8, 0, 3, 3)),
     (highvane.table_product, {'a': U8, 'b': U8}, (3, 3)),
     (scored, {'design': U32, 'setting': U32}, (1, 0)),
+    (by_itself(highvane.score_row_mitchell), {'setting': U32}, (0,)),
+    (by_itself(highvane.score_row_nearest), {'setting': U32}, (0,)),
+    (by_itself(highvane.score_row_staged), {'setting': U32}, (16,)),
+    (by_itself(highvane.score_row_truncated), {'setting': U32}, (15,)),
     (found(highvane.row_of), {'columns': U64, 'row': U64}, (2, 1)),
     (found(highvane.row_refusal), {'columns': U64, 'row': U64}, (2, 1)),
     (highvane.scale, {'score': I64, 'magnitude_sum': U64, 'shift': U32}, (3, 3, 1)),

@@ -33,6 +33,9 @@ def pattern(kind, number):
 
 # A kind of line takes its input off the line's numbers, and gives the numbers that are due after it.
 
+BY_ITSELF = {1: highvane.score_row_mitchell, 2: highvane.score_row_nearest, 3: highvane.score_row_staged, 4: highvane.score_row_truncated}
+
+
 def product(call, numbers):
     refusal, given = outcome(call, *taken(numbers, 5))
     return [refusal, given or 0]
@@ -46,6 +49,10 @@ def row(numbers):
     before = array('q', range(1000000, 1000000 + next(numbers)))
     residues = array('q', before)
     refusal, report = outcome(highvane.score_row, design, setting, weights, frame, residues)
+    if design in BY_ITSELF:
+        again = array('q', before)
+        assert outcome(BY_ITSELF[design], setting, weights, frame, again) == (refusal, report), 'the row of the design by itself is another'
+        assert again == residues, 'the row of the design by itself leaves other residues'
     written = len(weights) if report else 0
     assert residues[written:] == before[written:], 'a later place of the residues is another'
     fields = dataclasses.astuple(report) if report else [0] * len(dataclasses.fields(highvane.Report))

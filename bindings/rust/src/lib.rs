@@ -9,6 +9,7 @@
 //! | [`table_product`] | design 1's product of two bytes, by a table |
 //! | [`row_of`] | a row, as a part of a weight store |
 //! | [`score_row`] | the score of a row, its exact error, and the residue of each pair |
+//! | [`score_row_mitchell`], [`score_row_nearest`], [`score_row_staged`], [`score_row_truncated`] | the same by one design |
 //! | [`scale`] | a score and T as binary64, divided by a power of two |
 //! | [`single_product`], [`single_product_of_bits`] | Mitchell's product of two binary32 numbers |
 //! | `transcript`, [`transcript_into`] | what the bench prints for a run of records |
@@ -52,7 +53,7 @@ pub use products::{signed_product, table_product, unsigned_product};
 pub use records::transcript;
 pub use records::{INPUT_MAX, TRANSCRIPT_MAX, transcript_into};
 pub use refusal::{NoSuchRefusal, Refusal};
-pub use rows::{PAIRS_MAX, Report, score_row};
+pub use rows::{PAIRS_MAX, Report, score_row, score_row_mitchell, score_row_nearest, score_row_staged, score_row_truncated};
 pub use scores::{SHIFT_MAX, Scaled, scale};
 pub use singles::{single_product, single_product_of_bits};
 pub use stores::row_of;

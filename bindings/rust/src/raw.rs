@@ -50,7 +50,7 @@ pub struct Signed {
     pub refusal: u32,
 }
 
-/// The answer of [`highvane_score_row`]. A struct in a struct lies in memory as C's flat one does.
+/// The answer of [`highvane_score_row`] and of the rows by one design. A struct in a struct lies in memory as C's flat one does.
 ///
 /// ```
 /// let answer = highvane::raw::ScoredRow::default();
@@ -64,6 +64,18 @@ pub struct ScoredRow {
     /// The refusal's number, or 0.
     pub refusal: u32,
 }
+
+/// What the rows by one design are, such as [`highvane_score_row_mitchell`]: the setting, the weights, the frame and the residues, each
+/// slice as its pointer and its length.
+///
+/// ```
+/// let row: highvane::raw::RowByItself = highvane::raw::highvane_score_row_mitchell;
+/// let no_numbers = core::ptr::null();
+/// // SAFETY: where a length is 0, its pointer is not followed.
+/// let answer = unsafe { row(1, no_numbers, 0, no_numbers, 0, core::ptr::null_mut(), 0) };
+/// assert_eq!(answer.refusal, 3);
+/// ```
+pub type RowByItself = unsafe extern "C" fn(u32, *const i16, usize, *const i16, usize, *mut i64, usize) -> ScoredRow;
 
 /// The answer of [`highvane_scale`].
 ///
@@ -110,7 +122,7 @@ const _: () = {
 };
 
 // SAFETY: these are the archive's functions with the types of its C interface. The safe ones take and give plain numbers, and
-// accept every number. The others read no more places than the length after the pointer says; `highvane_score_row` writes at most
+// accept every number. The others read no more places than the length after the pointer says; those that score a row write at most
 // `residues_len` places, and `highvane_transcript` at most `TRANSCRIPT_MAX`.
 unsafe extern "C" {
     /// [`unsigned_product`](crate::unsigned_product), by numbers.
@@ -156,6 +168,134 @@ unsafe extern "C" {
     /// ```
     pub fn highvane_score_row(
         design: u32,
+        setting: u32,
+        weights: *const i16,
+        weights_len: usize,
+        frame: *const i16,
+        frame_len: usize,
+        residues: *mut i64,
+        residues_len: usize,
+    ) -> ScoredRow;
+
+    /// [`score_row_mitchell`](crate::score_row_mitchell), by numbers and pointers.
+    ///
+    /// # Safety
+    ///
+    /// As for [`highvane_score_row`].
+    ///
+    /// ```
+    /// let (weights, frame, mut residues) = ([3, -5, 0], [3, 6, 7], [0; 3]);
+    /// // SAFETY: each pointer goes with the length of its own array.
+    /// let answer = unsafe {
+    ///     highvane::raw::highvane_score_row_mitchell(
+    ///         0,
+    ///         weights.as_ptr(),
+    ///         3,
+    ///         frame.as_ptr(),
+    ///         3,
+    ///         residues.as_mut_ptr(),
+    ///         3,
+    ///     )
+    /// };
+    /// assert_eq!((answer.report.score, answer.refusal), (-20, 0));
+    /// ```
+    pub fn highvane_score_row_mitchell(
+        setting: u32,
+        weights: *const i16,
+        weights_len: usize,
+        frame: *const i16,
+        frame_len: usize,
+        residues: *mut i64,
+        residues_len: usize,
+    ) -> ScoredRow;
+
+    /// [`score_row_nearest`](crate::score_row_nearest), by numbers and pointers.
+    ///
+    /// # Safety
+    ///
+    /// As for [`highvane_score_row`].
+    ///
+    /// ```
+    /// let (weights, frame, mut residues) = ([3, -5, 0], [3, 6, 7], [0; 3]);
+    /// // SAFETY: each pointer goes with the length of its own array.
+    /// let answer = unsafe {
+    ///     highvane::raw::highvane_score_row_nearest(
+    ///         0,
+    ///         weights.as_ptr(),
+    ///         3,
+    ///         frame.as_ptr(),
+    ///         3,
+    ///         residues.as_mut_ptr(),
+    ///         3,
+    ///     )
+    /// };
+    /// assert_eq!((answer.report.score, answer.refusal), (-24, 0));
+    /// ```
+    pub fn highvane_score_row_nearest(
+        setting: u32,
+        weights: *const i16,
+        weights_len: usize,
+        frame: *const i16,
+        frame_len: usize,
+        residues: *mut i64,
+        residues_len: usize,
+    ) -> ScoredRow;
+
+    /// [`score_row_staged`](crate::score_row_staged), by numbers and pointers.
+    ///
+    /// # Safety
+    ///
+    /// As for [`highvane_score_row`].
+    ///
+    /// ```
+    /// let (weights, frame, mut residues) = ([3, -5, 0], [3, 6, 7], [0; 3]);
+    /// // SAFETY: each pointer goes with the length of its own array.
+    /// let answer = unsafe {
+    ///     highvane::raw::highvane_score_row_staged(
+    ///         2,
+    ///         weights.as_ptr(),
+    ///         3,
+    ///         frame.as_ptr(),
+    ///         3,
+    ///         residues.as_mut_ptr(),
+    ///         3,
+    ///     )
+    /// };
+    /// assert_eq!((answer.report.score, answer.refusal), (-21, 0));
+    /// ```
+    pub fn highvane_score_row_staged(
+        setting: u32,
+        weights: *const i16,
+        weights_len: usize,
+        frame: *const i16,
+        frame_len: usize,
+        residues: *mut i64,
+        residues_len: usize,
+    ) -> ScoredRow;
+
+    /// [`score_row_truncated`](crate::score_row_truncated), by numbers and pointers.
+    ///
+    /// # Safety
+    ///
+    /// As for [`highvane_score_row`].
+    ///
+    /// ```
+    /// let (weights, frame, mut residues) = ([3, -5, 0], [3, 6, 7], [0; 3]);
+    /// // SAFETY: each pointer goes with the length of its own array.
+    /// let answer = unsafe {
+    ///     highvane::raw::highvane_score_row_truncated(
+    ///         6,
+    ///         weights.as_ptr(),
+    ///         3,
+    ///         frame.as_ptr(),
+    ///         3,
+    ///         residues.as_mut_ptr(),
+    ///         3,
+    ///     )
+    /// };
+    /// assert_eq!((answer.report.score, answer.refusal), (-20, 0));
+    /// ```
+    pub fn highvane_score_row_truncated(
         setting: u32,
         weights: *const i16,
         weights_len: usize,

@@ -75,3 +75,102 @@ pub fn score_row(design: Design, weights: &[i16], frame: &[i16], residues: &mut 
     judged(answer.refusal)?;
     Ok(answer.report)
 }
+
+fn by_itself(
+    row: raw::RowByItself,
+    setting: u32,
+    weights: &[i16],
+    frame: &[i16],
+    residues: &mut [i64],
+) -> Result<Report, Refusal> {
+    // SAFETY: as for `score_row`.
+    let answer = unsafe {
+        row(setting, weights.as_ptr(), weights.len(), frame.as_ptr(), frame.len(), residues.as_mut_ptr(), residues.len())
+    };
+    judged(answer.refusal)?;
+    Ok(answer.report)
+}
+
+/// [`score_row`] by design 1, Mitchell's; it takes the setting 0.
+///
+/// # Errors
+///
+/// The refusals 3, 5, 6 and 7, in this order.
+///
+/// ```
+/// use highvane::{Refusal, score_row_mitchell};
+///
+/// let mut residues = [99; 4];
+/// let report = score_row_mitchell(0, &[3, -5, 0], &[3, 6, 7], &mut residues)?;
+/// assert_eq!((report.score, report.error, residues), (-20, -1, [1, -2, 0, 99]));
+///
+/// let refused = score_row_mitchell(1, &[3, -5, 0], &[3, 6], &mut residues);
+/// assert_eq!(refused, Err(Refusal::SettingOutOfRange));
+/// # Ok::<(), Refusal>(())
+/// ```
+pub fn score_row_mitchell(setting: u32, weights: &[i16], frame: &[i16], residues: &mut [i64]) -> Result<Report, Refusal> {
+    by_itself(raw::highvane_score_row_mitchell, setting, weights, frame, residues)
+}
+
+/// [`score_row`] by design 2, the nearest power; it takes the setting 0.
+///
+/// # Errors
+///
+/// The refusals 3, 5, 6 and 7, in this order.
+///
+/// ```
+/// use highvane::{Refusal, score_row_nearest};
+///
+/// let mut residues = [99; 4];
+/// let report = score_row_nearest(0, &[3, -5, 0], &[3, 6, 7], &mut residues)?;
+/// assert_eq!((report.score, report.error, residues), (-24, 3, [1, 2, 0, 99]));
+///
+/// let refused = score_row_nearest(1, &[3, -5, 0], &[3, 6], &mut residues);
+/// assert_eq!(refused, Err(Refusal::SettingOutOfRange));
+/// # Ok::<(), Refusal>(())
+/// ```
+pub fn score_row_nearest(setting: u32, weights: &[i16], frame: &[i16], residues: &mut [i64]) -> Result<Report, Refusal> {
+    by_itself(raw::highvane_score_row_nearest, setting, weights, frame, residues)
+}
+
+/// [`score_row`] by design 3; the setting is the number of stages, 1 to 16.
+///
+/// # Errors
+///
+/// The refusals 3, 5, 6 and 7, in this order.
+///
+/// ```
+/// use highvane::{Refusal, score_row_staged};
+///
+/// let mut residues = [99; 4];
+/// let report = score_row_staged(2, &[3, -5, 0], &[3, 6, 7], &mut residues)?;
+/// assert_eq!((report.score, report.error, residues), (-21, 0, [0, 0, 0, 99]));
+///
+/// let refused = score_row_staged(17, &[3, -5, 0], &[3, 6], &mut residues);
+/// assert_eq!(refused, Err(Refusal::SettingOutOfRange));
+/// # Ok::<(), Refusal>(())
+/// ```
+pub fn score_row_staged(setting: u32, weights: &[i16], frame: &[i16], residues: &mut [i64]) -> Result<Report, Refusal> {
+    by_itself(raw::highvane_score_row_staged, setting, weights, frame, residues)
+}
+
+/// [`score_row`] by design 4; the setting is the number of kept bits, 1 to 15.
+///
+/// # Errors
+///
+/// The refusals 3, 5, 6 and 7, in this order.
+///
+/// ```
+/// use highvane::{Refusal, score_row_truncated};
+///
+/// let mut residues = [99; 4];
+/// let report = score_row_truncated(6, &[3, -5, 0], &[3, 6, 7], &mut residues)?;
+/// assert_eq!((report.score, report.error, residues), (-20, -1, [1, -2, 0, 99]));
+///
+/// let refused = score_row_truncated(16, &[3, -5, 0], &[3, 6], &mut residues);
+/// assert_eq!(refused, Err(Refusal::SettingOutOfRange));
+/// # Ok::<(), Refusal>(())
+/// ```
+pub fn score_row_truncated(setting: u32, weights: &[i16], frame: &[i16], residues: &mut [i64]) -> Result<Report, Refusal> {
+    by_itself(raw::highvane_score_row_truncated, setting, weights, frame, residues)
+}

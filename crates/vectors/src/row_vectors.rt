@@ -1,5 +1,6 @@
 // Vectors of rows, DESIGN SETTING WEIGHTS FRAME PLACES REFUSAL SCORE TRUE ERROR T N RESIDUES after the kind `r`. WEIGHTS, FRAME and
-// RESIDUES are lists, each a length and so many numbers. PLACES is the length of the residue slice.
+// RESIDUES are lists, each a length and so many numbers. PLACES is the length of the residue slice. The row by the design is due, and, if
+// there is such a design, the design's row by itself.
 ghost use Prim.Native.Nat.{_≤_};
 use crate::field::I16;
 use crate::field::I64;
@@ -60,7 +61,7 @@ fn read_list(line: &[u8], start: usize, elements: &mut [i16; ROOM]) -> usize {
     next
 }
 
-// The slices of the call have exactly the lengths that the line says.
+// The slices of the calls have exactly the lengths that the line says.
 fn is_scored(
     line: &[u8],
     start: usize,
@@ -71,15 +72,39 @@ fn is_scored(
     m: usize,
 ) -> bool {
     let count = count_at(line, start);
+    let design = u32_of(head.f);
+    let setting = u32_of(head.g);
+    let w = first(weights, n);
+    let x = first(frame, m);
     let mut places = [MARK; ROOM];
-    let given = rows::score_row(
-        u32_of(head.f),
-        u32_of(head.g),
-        first(weights, n),
-        first(frame, m),
-        &mut places[0..count],
-    );
+    let given = rows::score_row(design, setting, w, x, &mut places[0..count]);
+    let mut again = [MARK; ROOM];
+    let by_itself = score_by_itself(design, setting, w, x, &mut again[0..count]);
     are_given(line, start, given, n as u64, &places)
+        & are_given(line, start, by_itself, n as u64, &again)
+}
+
+// The row of a design by itself; a number that is no design has none.
+fn score_by_itself(
+    design: u32,
+    setting: u32,
+    weights: &[i16],
+    frame: &[i16],
+    residues: &mut [i64],
+) -> rows::Scored {
+    if design == 1 {
+        return rows::score_row_mitchell(setting, weights, frame, residues);
+    }
+    if design == 2 {
+        return rows::score_row_nearest(setting, weights, frame, residues);
+    }
+    if design == 3 {
+        return rows::score_row_staged(setting, weights, frame, residues);
+    }
+    if design == 4 {
+        return rows::score_row_truncated(setting, weights, frame, residues);
+    }
+    rows::Scored::Refused(1)
 }
 
 fn are_given(

@@ -8,6 +8,13 @@ use crate::random::Random;
 use crate::singles::any_pattern;
 use crate::tally::Tally;
 
+const BY_ITSELF: [(&str, raw::RowByItself); 4] = [
+    ("design 1", raw::highvane_score_row_mitchell),
+    ("design 2", raw::highvane_score_row_nearest),
+    ("design 3", raw::highvane_score_row_staged),
+    ("design 4", raw::highvane_score_row_truncated),
+];
+
 /// Compares what an answer has beside its refusal with zeros if it was refused.
 fn compare<T: Debug + Default + PartialEq>(refusal: u32, rest: T, tally: &mut Tally, input: impl FnOnce() -> String) {
     if refusal != 0 {
@@ -54,8 +61,13 @@ pub fn fields(random: &mut Random, tally: &mut Tally) {
                 places,
             )
         };
-        compare(answer.refusal, answer.report, tally, || {
-            format!("row {numbers:?}, {weights:?} and {frame:?}, {taken} frame numbers, {places} places")
-        });
+        let input = |by| format!("row by {by}, {numbers:?}, {weights:?} and {frame:?}, {taken} frame numbers, {places} places");
+        compare(answer.refusal, answer.report, tally, || input("any design"));
+        for (by, row) in BY_ITSELF {
+            // SAFETY: as above.
+            let answer =
+                unsafe { row(setting, weights.as_ptr(), weights.len(), frame.as_ptr(), taken, residues.as_mut_ptr(), places) };
+            compare(answer.refusal, answer.report, tally, || input(by));
+        }
     }
 }

@@ -1,6 +1,6 @@
 //! Rows of weights: the report, every place of the residue slice, and the third demand.
 
-use highvane::{Design, score_row};
+use highvane::{Design, Refusal, score_row, score_row_mitchell, score_row_nearest, score_row_staged, score_row_truncated};
 
 use crate::meaning::rows::Report;
 use crate::meaning::{demand, products, rows};
@@ -17,12 +17,36 @@ fn widened(report: highvane::Report) -> Report {
     }
 }
 
-/// Scores a row into a slice of so many places, which hold anything before.
+type ByItself = fn(u32, &[i16], &[i16], &mut [i64]) -> Result<highvane::Report, Refusal>;
+
+/// The rows of the designs by themselves, design 1 first.
+const BY_ITSELF: [ByItself; 4] = [score_row_mitchell, score_row_nearest, score_row_staged, score_row_truncated];
+
+/// Scores a row into a slice of so many places, which hold anything before, and by the row of its design, if it has one.
 fn compare(numbers: (u32, u32), weights: &[i16], frame: &[i16], places: usize, random: &mut Random, tally: &mut Tally) {
     let (design, setting) = numbers;
     let before: Vec<i64> = (0..places).map(|_| random.any() as i64).collect();
     let mut residues = before.clone();
-    let given = score_row(Design::from_numbers(design, setting), weights, frame, &mut residues).map(widened);
+    let given = score_row(Design::from_numbers(design, setting), weights, frame, &mut residues);
+    compare_one(numbers, weights, frame, &before, given, &residues, tally);
+    if let Some(row) = BY_ITSELF.get((design as usize).wrapping_sub(1)) {
+        let mut residues = before.clone();
+        let given = row(setting, weights, frame, &mut residues);
+        compare_one(numbers, weights, frame, &before, given, &residues, tally);
+    }
+}
+
+fn compare_one(
+    numbers: (u32, u32),
+    weights: &[i16],
+    frame: &[i16],
+    before: &[i64],
+    given: Result<highvane::Report, Refusal>,
+    residues: &[i64],
+    tally: &mut Tally,
+) {
+    let ((design, setting), places) = (numbers, before.len());
+    let given = given.map(widened);
     let meant = rows::outcome(numbers, weights, frame, places);
     let input = || {
         let lengths = (weights.len(), frame.len());
