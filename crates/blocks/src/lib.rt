@@ -1,26 +1,11 @@
-// The residues of a block of pairs, by each design: those of the first pairs of two slices, into the first places of a block. Any slices
-// are taken. The pairs are as many as both have numbers and the block has places; by design 3 a pair needs two places. The other places keep
-// their contents. A block has 32-bit numbers only, so that the compiler takes four pairs at a time.
+// The residues of a block of pairs, by the designs whose rows go by blocks: those of the first pairs of two slices, into the first places
+// of a block. Any slices are taken. The pairs are as many as both have numbers and the block has places; by design 3 a pair needs two
+// places. The other places keep their contents. A block has 32-bit numbers only, so that the compiler takes four pairs at a time.
 ghost use Prim.Native.Nat.{_+_};
 ghost use lib.IntN.{_*ℤ_};
-ghost use Rattle.designs.specs.Designs.{mitchell, nearest, truncated};
+ghost use Rattle.designs.specs.Designs.{nearest};
 ghost use Rattle.patterns.specs.Blocks.{Done, place, Small};
-ghost use Rattle.patterns.specs.Patterns.{clamped};
 ghost use Rattle.blocks.specs.Residues.{Filled, FilledByStages};
-
-// By design 1, Mitchell's.
-pub fn mitchell_residues(weights: &[i16], frame: &[i16], block: &mut [i32])
-    ensures { λ r. ⌜ Filled mitchell (now (weights .entry)) (now (frame .entry)) (now (block .entry)) (now (block .exit)) ⌝ }
-{
-    let n = pairs::taken(weights.len(), frame.len(), block.len());
-    let mut j = 0;
-    while j < n {
-        let w = weights[j];
-        let x = frame[j];
-        block[j] = patterns::mitchell_residue(w, x);
-        j += 1;
-    }
-}
 
 // By design 2, the nearest power.
 pub fn nearest_residues(weights: &[i16], frame: &[i16], block: &mut [i32])
@@ -32,20 +17,6 @@ pub fn nearest_residues(weights: &[i16], frame: &[i16], block: &mut [i32])
         let w = weights[j];
         let x = frame[j];
         block[j] = patterns::nearest_residue(w, x);
-        j += 1;
-    }
-}
-
-// By design 4, truncated; fewer kept bits than 1 act as 1, and more than 15 as 15.
-pub fn truncated_residues(kept_bits: u32, weights: &[i16], frame: &[i16], block: &mut [i32])
-    ensures { λ r. ⌜ Filled (truncated (clamped «kept_bits»)) (now (weights .entry)) (now (frame .entry)) (now (block .entry)) (now (block .exit)) ⌝ }
-{
-    let n = pairs::taken(weights.len(), frame.len(), block.len());
-    let mut j = 0;
-    while j < n {
-        let w = weights[j];
-        let x = frame[j];
-        block[j] = patterns::truncated_residue(kept_bits, w, x);
         j += 1;
     }
 }
