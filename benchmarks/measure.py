@@ -92,15 +92,14 @@ def counts(program, functions, lines):
 
 
 def run_bytes(program, name, calls):
-    """How many bytes of a function's code some calls of it run, those of instructions that are run once or more."""
+    """How many bytes of a function's code, and of what it calls, some calls of it run, those of instructions that are run once or more."""
     code = Code(program)
-    start = code.reached(name)[0]
     with tempfile.TemporaryDirectory() as dumps:
         lines = ''.join(f'{name} uniform {" ".join(map(str, call))}\n' for call in calls)
         valgrind = ['valgrind', '-q', '--tool=callgrind', '--dump-instr=yes', '--compress-pos=no', f'--callgrind-out-file={dumps}/dump']
         output([*valgrind, f'--toggle-collect={name}', program], input=lines)
         run = {int(at, 16) for dump in Path(dumps).iterdir() for at in re.findall(r'^0x([0-9a-f]+) ', dump.read_text(), re.M)}
-    return sum(size for at, size in code.lengths(start) if at in run)
+    return sum(size for start in code.reached(name) for at, size in code.lengths(start) if at in run)
 
 
 def times(program, calls):
