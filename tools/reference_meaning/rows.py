@@ -18,6 +18,11 @@ NO_REPORT = RowReport(score=0, true_sum=0, error=0, t=0, n=0, residues=())
 def row_refusal(case):
     if case.design not in DESIGNS:
         return refusals.UNKNOWN_DESIGN
+    return refusal_by_itself(case)
+
+
+def refusal_by_itself(case):
+    """That of the row of a design, which judges no design; what it gives and writes is as here."""
     if case.setting not in settings_accepted(case.design, ROW_WIDTH):
         return refusals.SETTING_OUT_OF_RANGE
     if len(case.weights) != len(case.frame):

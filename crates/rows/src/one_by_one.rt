@@ -1,5 +1,5 @@
-// Going over a row pair by pair, a loop for each design. That of designs 1 and 4 the compiler makes for four pairs at a time, so it serves
-// rows of any length; designs 2 and 3 go by blocks where there are more than a few pairs.
+// Going over a row pair by pair, a loop for each design. Of those of designs 1 and 4 the compiler makes loops for several pairs at a time, so
+// they serve rows of any length; designs 2 and 3 go by blocks where there are more than a few pairs.
 ghost use Rattle.designs.specs.Designs.{mitchell, nearest, staged, truncated};
 ghost use Rattle.rows.specs.Answers.{Ready};
 ghost use Rattle.rows.specs.Totals.{Complete};

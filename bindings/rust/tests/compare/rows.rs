@@ -22,53 +22,62 @@ type ByItself = fn(u32, &[i16], &[i16], &mut [i64]) -> Result<highvane::Report, 
 /// The rows of the designs by themselves, design 1 first.
 const BY_ITSELF: [ByItself; 4] = [score_row_mitchell, score_row_nearest, score_row_staged, score_row_truncated];
 
-/// Scores a row into a slice of so many places, which hold anything before, and by the row of its design, if it has one.
-fn compare(numbers: (u32, u32), weights: &[i16], frame: &[i16], places: usize, random: &mut Random, tally: &mut Tally) {
-    let (design, setting) = numbers;
-    let before: Vec<i64> = (0..places).map(|_| random.any() as i64).collect();
-    let mut residues = before.clone();
-    let given = score_row(Design::from_numbers(design, setting), weights, frame, &mut residues);
-    compare_one(numbers, weights, frame, &before, given, &residues, tally);
-    if let Some(row) = BY_ITSELF.get((design as usize).wrapping_sub(1)) {
-        let mut residues = before.clone();
-        let given = row(setting, weights, frame, &mut residues);
-        compare_one(numbers, weights, frame, &before, given, &residues, tally);
+/// A row, and what its places hold before it is scored.
+struct Row<'a> {
+    numbers: (u32, u32),
+    weights: &'a [i16],
+    frame: &'a [i16],
+    before: Vec<i64>,
+}
+
+impl Row<'_> {
+    /// Compares what scoring gave and left in the places with what it should.
+    fn compare(
+        &self,
+        given: Result<highvane::Report, Refusal>,
+        residues: &[i64],
+        meant: Result<(Report, Vec<i128>), u32>,
+        tally: &mut Tally,
+    ) {
+        let Row { numbers, weights, frame, ref before } = *self;
+        let ((design, setting), places) = (numbers, before.len());
+        let given = given.map(widened);
+        let input = || {
+            let lengths = (weights.len(), frame.len());
+            let start = |slice: &[i16]| format!("{:?}", &slice[..slice.len().min(40)]);
+            format!(
+                "row, design {design}, setting {setting}, lengths {lengths:?}, {places} places, weights from {}, frame from {}",
+                start(weights),
+                start(frame)
+            )
+        };
+        let mut expected: Vec<i128> = before.iter().map(|&place| place.into()).collect();
+        if let Ok((_, written)) = &meant {
+            expected[..written.len()].copy_from_slice(written);
+        }
+        let left: Vec<i128> = residues.iter().map(|&place| place.into()).collect();
+        tally.outcome(given, meant.map(|(report, _)| report), input);
+        let place = (0..places).find(|&place| left[place] != expected[place]);
+        let shown = |slice: &[i128]| place.map(|place| (place, slice[place]));
+        tally.same(shown(&left), shown(&expected), || input() + ", a place of the residue slice");
+        if let Ok(report) = given {
+            let holds = demand::holds(numbers, weights, frame, &report);
+            tally.same(holds, true, || format!("{}, third demand of {report:?}", input()));
+        }
     }
 }
 
-fn compare_one(
-    numbers: (u32, u32),
-    weights: &[i16],
-    frame: &[i16],
-    before: &[i64],
-    given: Result<highvane::Report, Refusal>,
-    residues: &[i64],
-    tally: &mut Tally,
-) {
-    let ((design, setting), places) = (numbers, before.len());
-    let given = given.map(widened);
-    let meant = rows::outcome(numbers, weights, frame, places);
-    let input = || {
-        let lengths = (weights.len(), frame.len());
-        let start = |slice: &[i16]| format!("{:?}", &slice[..slice.len().min(40)]);
-        format!(
-            "row, design {design}, setting {setting}, lengths {lengths:?}, {places} places, weights from {}, frame from {}",
-            start(weights),
-            start(frame)
-        )
-    };
-    let mut expected: Vec<i128> = before.iter().map(|&place| place.into()).collect();
-    if let Ok((_, written)) = &meant {
-        expected[..written.len()].copy_from_slice(written);
-    }
-    let left: Vec<i128> = residues.iter().map(|&place| place.into()).collect();
-    tally.outcome(given, meant.map(|(report, _)| report), input);
-    let place = (0..places).find(|&place| left[place] != expected[place]);
-    let shown = |slice: &[i128]| place.map(|place| (place, slice[place]));
-    tally.same(shown(&left), shown(&expected), || input() + ", a place of the residue slice");
-    if let Ok(report) = given {
-        let holds = demand::holds(numbers, weights, frame, &report);
-        tally.same(holds, true, || format!("{}, third demand of {report:?}", input()));
+/// Scores a row into a slice of so many places, which hold anything before, and again by the row of its design, if it has one.
+fn compare(numbers: (u32, u32), weights: &[i16], frame: &[i16], places: usize, random: &mut Random, tally: &mut Tally) {
+    let (design, setting) = numbers;
+    let row = Row { numbers, weights, frame, before: (0..places).map(|_| random.any() as i64).collect() };
+    let mut residues = row.before.clone();
+    let given = score_row(Design::from_numbers(design, setting), weights, frame, &mut residues);
+    row.compare(given, &residues, rows::outcome(numbers, weights, frame, places), tally);
+    if let Some(by_itself) = BY_ITSELF.get((design as usize).wrapping_sub(1)) {
+        residues.copy_from_slice(&row.before);
+        let given = by_itself(setting, weights, frame, &mut residues);
+        row.compare(given, &residues, rows::by_itself(numbers, weights, frame, places), tally);
     }
 }
 

@@ -13,10 +13,20 @@ pub struct Report {
 }
 
 /// The report, and the residue of each pair.
-pub fn outcome((design, setting): (u32, u32), weights: &[i16], frame: &[i16], places: usize) -> Result<(Report, Vec<i128>), u32> {
-    if !(1..=4).contains(&design) {
+pub fn outcome(numbers: (u32, u32), weights: &[i16], frame: &[i16], places: usize) -> Result<(Report, Vec<i128>), u32> {
+    if !(1..=4).contains(&numbers.0) {
         return Err(1);
     }
+    by_itself(numbers, weights, frame, places)
+}
+
+/// Those of the row of one design, which judges no design.
+pub fn by_itself(
+    (design, setting): (u32, u32),
+    weights: &[i16],
+    frame: &[i16],
+    places: usize,
+) -> Result<(Report, Vec<i128>), u32> {
     if !products::takes(design, 16, setting) {
         return Err(3);
     }
