@@ -89,7 +89,7 @@ fn laid(answer: rows::Scored) -> ScoredRow
     }
 }
 
-// A row by any design decides between the four below, and not by `rows::score_row`: so no answer is copied on its way to C.
+// A row by any design decides between the four below. By way of `rows::score_row` an answer would be copied once more before it is laid out.
 #[no_mangle]
 pub extern "C" fn highvane_score_row(
     design: u32,
