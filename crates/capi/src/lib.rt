@@ -77,6 +77,7 @@ pub struct ScoredRow {
     pub refusal: u32,
 }
 
+// An answer of a row, laid out for C.
 fn laid(answer: rows::Scored) -> ScoredRow
     ensures { λ r. ⌜ RowLaid (given answer) r ⌝ }
 {
@@ -89,7 +90,8 @@ fn laid(answer: rows::Scored) -> ScoredRow
     }
 }
 
-// A row by any design decides between the four below. By way of `rows::score_row` an answer would be copied once more before it is laid out.
+// A row by any design decides between the four below. By way of `rows::score_row` an answer would be copied once more before it is laid
+// out.
 #[no_mangle]
 pub extern "C" fn highvane_score_row(
     design: u32,

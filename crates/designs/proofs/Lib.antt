@@ -29,3 +29,4 @@ pub mod KeptCodes
 pub mod SignedGaps
 pub mod SignedOffsets
 pub mod SignedLeft
+pub mod OwnRefusals

@@ -35,6 +35,12 @@ unfolding designRefusals pairRefusals
 rowRefusals design setting weights frame places =
     designRefusals design setting ++ (pairRefusals weights frame ++ (residuesTooShort places weights ∷ []))
 
+-- Those that a row by one design can meet, which judges no design.
+unfoldable pub ownRefusals : ℕ → ℕ → ℕ → ℕ → ℕ → List Refusal
+unfolding pairRefusals
+ownRefusals design setting weights frame places =
+    settingOutOfRange design rowWidth setting ∷ (pairRefusals weights frame ++ (residuesTooShort places weights ∷ []))
+
 -- `new` in the first places and what stood in the later ones, unless a refusal applies.
 abbrev pub writtenUnless : ℕ → List ℤ → List ℤ → List ℤ
 writtenUnless zero new before = new ++ drop (length new) before
