@@ -111,7 +111,8 @@ def own_table(rows):
     keys = {key: label for key, label in DESIGNS.items() if key[0] != 4} | {(4, t): '4, every t' for t in range(1, 16)}
     body = {}
     for (design, setting), label in keys.items():
-        own, any_design = ([rows.count(name, 'uniform', design, setting, n) for n in (*LENGTHS, 2 * 64)] for name in (BY_ITSELF[design], OURS))
+        own, any_design = ([rows.count(name, 'uniform', design, setting, n) for n in (*LENGTHS, 2 * 64)]
+                           for name in (BY_ITSELF[design], OURS))
         added = [b - a for a, b in zip(own, any_design)]
         cells = [label, *(number(n) for n in own[:3]), f'{(own[2] - own[1]) / (LENGTHS[2] - LENGTHS[1]):.2f}', number(added[1])]
         if rows.found and (len({added[1], *added[2:]}) > 1 or body.get(label, cells) != cells):
