@@ -30,8 +30,8 @@ module _ (ws : List ℤ) (from end : ℕ) (inside : end ≤ length ws) where
   part-at k h = getD-take (end - from) (drop from ws) k (pos 0) h ∙ getD-drop from ws k (pos 0)
 
 -- the next n pairs can be added from a block
-abbrev pub Next : Design → List ℤ → List ℤ → List ℤ → List ℤ → ℕ → Sums → ℕ → List ℤ → Type 0
-Next D ws fs before after at s n block = Addable (ofPair (residue D) ws fs) s ws fs block before after at (at + n)
+abbrev pub NextBlock : Design → List ℤ → List ℤ → List ℤ → List ℤ → ℕ → Sums → ℕ → List ℤ → Type 0
+NextBlock D ws fs before after at s n block = Addable (ofPair (residue D) ws fs) s ws fs block before after at (at + n)
 
 -- they are at most 32
 module _ {D : Design} {ws fs before after : List ℤ} {at n : ℕ} {s : Sums} (ready : Ready D ws fs before) (so-far : Going D ws fs before after at s) (count : n ≡ min (length ws - at) 32) where
@@ -48,7 +48,7 @@ module _ {D : Design} {ws fs before after : List ℤ} {at n : ℕ} {s : Sums} (r
   abbrev Holds : List ℤ → ℕ → Type 0
   Holds block k = place block k ≡ ofPair (residue D) (part ws at end) (part fs at end) k
 
-  addable : {block : List ℤ} → 32 ≤ length block → ((k : ℕ) → k < end - at → Holds block k) → Next D ws fs before after at s n block
+  addable : {block : List ℤ} → 32 ≤ length block → ((k : ℕ) → k < end - at → Holds block k) → NextBlock D ws fs before after at s n block
   addable room holds =
       record {
         reached = so-far .reached;
@@ -61,7 +61,7 @@ module _ {D : Design} {ws fs before after : List ℤ} {at n : ℕ} {s : Sums} (r
         filled = λ k h. holds k h ∙ ap₂ (residue D) (part-at ws at end in-row k h) (part-at fs at end in-frame k h);
       }
 
-  pub filled : {block block' : List ℤ} → length block ≡ 32 → Filled D (part ws at end) (part fs at end) block block' → Next D ws fs before after at s n block'
+  pub filled : {block block' : List ℤ} → length block ≡ 32 → Filled D (part ws at end) (part fs at end) block block' → NextBlock D ws fs before after at s n block'
   filled room by =
       addable (omega (arith, by .size)) (λ k h. by .first k (omega (arith, part-length ws at end in-row, part-length fs at end in-frame)))
 
@@ -73,7 +73,7 @@ module _ {D : Design} {ws fs before after : List ℤ} {at n : ℕ} {s : Sums} (r
 
 -- by stages a pair has two places
 pub filled-by-stages : {t : ℕ} {ws fs before after block block' : List ℤ} {at n : ℕ} {s : Sums} → Ready (staged t) ws fs before → Going (staged t) ws fs before after at s
-    → n ≡ min (length ws - at) 32 → length block ≡ 64 → FilledByStages t (part ws at (at + n)) (part fs at (at + n)) block block' → Next (staged t) ws fs before after at s n block'
+    → n ≡ min (length ws - at) 32 → length block ≡ 64 → FilledByStages t (part ws at (at + n)) (part fs at (at + n)) block block' → NextBlock (staged t) ws fs before after at s n block'
 filled-by-stages {t} {ws} {fs} {block = block} {at = at} {n} ready so-far count room by =
     let us = part ws at (at + n) in
     let vs = part fs at (at + n) in

@@ -26,8 +26,8 @@ pub record Going (D : Design) (ws fs before after : List ℤ) (at : ℕ) (s : Su
   pub reached : Reached (ofPair (residue D) ws fs) ws fs before after at s
 
 -- what a turn asks of the next pair, as it is read, and of its residue, as a callee gives it
-abbrev pub Next : Design → List ℤ → List ℤ → List ℤ → List ℤ → ℕ → Sums → ℤ → Type 0
-Next D ws fs before after at s r =
+abbrev pub NextPair : Design → List ℤ → List ℤ → List ℤ → List ℤ → ℕ → Sums → ℤ → Type 0
+NextPair D ws fs before after at s r =
     Turnable (ofPair (residue D) ws fs) ws fs before after at s (toZ w16 (ofZ w16 (place ws at))) (toZ w16 (ofZ w16 (place fs at))) (toZ w32 (ofZ w32 r))
 
 module _ {D : Design} {ws fs before : List ℤ} where
@@ -42,7 +42,7 @@ module _ {D : Design} {ws fs before : List ℤ} where
 
   -- with the residue by a design that has another name too
   pub next-as : {E : Design} → E ≡ D → {after : List ℤ} {at : ℕ} {s : Sums} {r : ℤ} → Ready D ws fs before → Going D ws fs before after at s → at < length ws → mag (place ws at) < 2 ^ 15
-      → mag (place fs at) < 2 ^ 15 → mag r < 2 ^ 31 → r ≡ residue E (toZ w16 (ofZ w16 (place ws at))) (toZ w16 (ofZ w16 (place fs at))) → Next D ws fs before after at s r
+      → mag (place fs at) < 2 ^ 15 → mag r < 2 ^ 31 → r ≡ residue E (toZ w16 (ofZ w16 (place ws at))) (toZ w16 (ofZ w16 (place fs at))) → NextPair D ws fs before after at s r
   next-as {E} same {at = at} ready so-far h hw hx hr e =
       let w : toZ w16 (ofZ w16 (place ws at)) ≡ place ws at = toZ-ofZ (record { sfits = hw }) in
       let x : toZ w16 (ofZ w16 (place fs at)) ≡ place fs at = toZ-ofZ (record { sfits = hx }) in
@@ -56,5 +56,5 @@ module _ {D : Design} {ws fs before : List ℤ} where
       }
 
   pub next : {after : List ℤ} {at : ℕ} {s : Sums} {r : ℤ} → Ready D ws fs before → Going D ws fs before after at s → at < length ws → mag (place ws at) < 2 ^ 15 → mag (place fs at) < 2 ^ 15
-      → mag r < 2 ^ 31 → r ≡ residue D (toZ w16 (ofZ w16 (place ws at))) (toZ w16 (ofZ w16 (place fs at))) → Next D ws fs before after at s r
+      → mag r < 2 ^ 31 → r ≡ residue D (toZ w16 (ofZ w16 (place ws at))) (toZ w16 (ofZ w16 (place fs at))) → NextPair D ws fs before after at s r
   next = next-as refl

@@ -5,7 +5,7 @@ use Prim.Native.Nat.{_-_}
 use lib.ListN.{length}
 use Rattle.designs.specs.Designs.{nearest}
 use Rattle.rows.proofs.OneByOne.{begun, Going, gone}
-use Rattle.rows.proofs.ByBlocks.{fewer-left, filled, Next, on}
+use Rattle.rows.proofs.ByBlocks.{fewer-left, filled, NextBlock, on}
 use Rattle.rows.proofs.by_blocks.nearest.Statement.{statement}
 use Rattle.rows.proofs.by_blocks.nearest.Tie as tie
 
@@ -27,7 +27,7 @@ module _ (c : tie.After-nearest-residues Inv-loop μ-loop) where
   start = at .before .before
 
   next : let a = start .args in
-      Next nearest (a .weights .now) (a .frame .now) (a .residues .now) (at .loop .residues) (at .loop .at) (at .loop .sums) (counted .fewer .result) (c .nearest-residues .last .1 .1 .0)
+      NextBlock nearest (a .weights .now) (a .frame .now) (a .residues .now) (at .loop .residues) (at .loop .at) (at .loop .sums) (counted .fewer .result) (c .nearest-residues .last .1 .1 .0)
   next = filled (start .pre) (at .loop .inv .1) (counted .fewer .ensures) (at .loop .inv .0) (c .nearest-residues .ensures)
 
 loop-again : tie.Need-loop-again Inv-loop μ-loop

@@ -3,7 +3,7 @@ use borrow.Author.Needs.{needs}
 use Prim.Native.Nat.{_-_}
 use lib.ListN.{length}
 use Rattle.designs.specs.Designs.{mitchell}
-use Rattle.rows.proofs.OneByOne.{begun, Going, gone, next, Next, on}
+use Rattle.rows.proofs.OneByOne.{begun, Going, gone, next, NextPair, on}
 use Rattle.rows.proofs.one_by_one.mitchell.Statement.{statement}
 use Rattle.rows.proofs.one_by_one.mitchell.Tie as tie
 
@@ -15,7 +15,7 @@ abbrev μ-loop : tie.MeasureT-loop
 
 -- the next pair, when its residue is known
 next-pair : (c : tie.After-mitchell-residue Inv-loop μ-loop) → let at = c .before .before .before .before in let a = at .before .before .args in
-    Next mitchell (a .weights .now) (a .frame .now) (a .residues .now) (at .loop .residues) (at .loop .at) (at .loop .sums) (c .mitchell-residue .result)
+    NextPair mitchell (a .weights .now) (a .frame .now) (a .residues .now) (at .loop .residues) (at .loop .at) (at .loop .sums) (c .mitchell-residue .result)
 next-pair c =
     let test = c .before .before .before in
     next (test .before .before .before .pre) (test .before .loop .inv) (test .loop-test .taken) (c .before .before .w .given) (c .before .x .given) (c .mitchell-residue .ok) (c .mitchell-residue .ensures)

@@ -3,7 +3,7 @@ use borrow.Author.Needs.{needs}
 use Prim.Native.Nat.{_-_}
 use lib.ListN.{length}
 use Rattle.designs.specs.Designs.{nearest}
-use Rattle.rows.proofs.OneByOne.{begun, Going, gone, next, Next, on}
+use Rattle.rows.proofs.OneByOne.{begun, Going, gone, next, NextPair, on}
 use Rattle.rows.proofs.one_by_one.nearest.Statement.{statement}
 use Rattle.rows.proofs.one_by_one.nearest.Tie as tie
 
@@ -15,7 +15,7 @@ abbrev μ-loop : tie.MeasureT-loop
 
 -- the next pair, when its residue is known
 next-pair : (c : tie.After-nearest-residue Inv-loop μ-loop) → let at = c .before .before .before .before in let a = at .before .before .args in
-    Next nearest (a .weights .now) (a .frame .now) (a .residues .now) (at .loop .residues) (at .loop .at) (at .loop .sums) (c .nearest-residue .result)
+    NextPair nearest (a .weights .now) (a .frame .now) (a .residues .now) (at .loop .residues) (at .loop .at) (at .loop .sums) (c .nearest-residue .result)
 next-pair c =
     let test = c .before .before .before in
     next (test .before .before .before .pre) (test .before .loop .inv) (test .loop-test .taken) (c .before .before .w .given) (c .before .x .given) (c .nearest-residue .ok) (c .nearest-residue .ensures)

@@ -4,7 +4,7 @@ use mathlib.Core.Path.{ap}
 use Prim.Native.Nat.{_-_}
 use lib.ListN.{length}
 use Rattle.designs.specs.Designs.{truncated}
-use Rattle.rows.proofs.OneByOne.{begun, Going, gone, Next, next-as, on}
+use Rattle.rows.proofs.OneByOne.{begun, Going, gone, NextPair, next-as, on}
 use Rattle.rows.proofs.one_by_one.truncated.Statement.{statement}
 use Rattle.rows.proofs.one_by_one.truncated.Tie as tie
 
@@ -16,7 +16,7 @@ abbrev μ-loop : tie.MeasureT-loop
 
 -- the next pair, when its residue is known
 next-pair : (c : tie.After-truncated-residue Inv-loop μ-loop) → let at = c .before .before .before .before in let a = at .before .before .args in
-    Next (truncated (a .kept-bits)) (a .weights .now) (a .frame .now) (a .residues .now) (at .loop .residues) (at .loop .at) (at .loop .sums) (c .truncated-residue .result)
+    NextPair (truncated (a .kept-bits)) (a .weights .now) (a .frame .now) (a .residues .now) (at .loop .residues) (at .loop .at) (at .loop .sums) (c .truncated-residue .result)
 next-pair c =
     let test = c .before .before .before in
     next-as (ap truncated (test .before .before .before .pre .kept)) (test .before .before .before .pre) (test .before .loop .inv) (test .loop-test .taken) (c .before .before .w .given) (c .before .x .given) (c .truncated-residue .ok) (c .truncated-residue .ensures)
