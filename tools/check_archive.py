@@ -6,9 +6,9 @@ the bench does and the chip does otherwise, multiplies: it forms the true produc
 the product of what powers leave; the compiler makes two loops of each, for several pairs and for the rest, and short rows have a third.
 The writer of decimals divides by ten, which the compiler does by a multiply.
 
-No inner loop of a row chooses a design or works out what a setting fixes: none compares with 2, 3 or 4, calls, or shifts by a register,
-and one that takes several pairs at a time has no branch but its own end. The stages of a few pairs, one pair after the other, are a loop
-of the kernel's, which shifts by what the operands have.
+No inner loop of a row chooses a design or works out what a setting fixes: none compares with 2, 3 or 4, jumps by a table, calls, or
+shifts by a register, and one that takes several pairs at a time has no branch but its own end. The stages of a few pairs, one pair after
+the other, are a loop of the kernel's, which shifts by what the operands have.
 
 The archive must need nothing from outside (no undefined symbol) and hold no data that a program could write, so that it can go into ROM
 as it is. Constants are counted: the byte table's 512 bytes, the words of a transcript, the four places that a row by any design jumps to,
@@ -89,6 +89,8 @@ def choices(loop):
     for _, instruction, operands in loop:
         if instruction.startswith('call'):
             yield 'a call'
+        if 'jmp' in instruction + operands and '*' in operands:
+            yield f'a jump by a table, {instruction}{operands}'
         if instruction.startswith('cmp') and CHOICE.search(operands):
             yield f'a choice, {instruction}{operands}'
         if instruction.startswith(('sh', 'sa')) and BY_REGISTER.search(operands):

@@ -22,7 +22,7 @@ def row_refusal(case):
 
 
 def refusal_by_itself(case):
-    """That of the row of a design, which judges no design; what it gives and writes is as here."""
+    """The refusal of a design's own row, which judges no design; its report and its residues are those of row_report."""
     if case.setting not in settings_accepted(case.design, ROW_WIDTH):
         return refusals.SETTING_OUT_OF_RANGE
     if len(case.weights) != len(case.frame):

@@ -1,4 +1,5 @@
--- Before the stage k, counted from 0, the places have what k stages leave, or all, where they are fewer, of the numbers of both slices, and these are small. Assumes nothing.
+-- After `begin` one stage is made, if there is one, and each turn makes one more. So before turn k the places have what k stages leave of the
+-- numbers of both slices, or all stages, where they are fewer, and these are small. Assumes nothing.
 use borrow.Author.Needs.{needs}
 use mathlib.Core.Path.{_≡_}
 use Prim.Native.Nat.{ℕ, min, _+_, _-_, _≤_}
