@@ -129,6 +129,7 @@ pub extern "C" fn highvane_score_row_mitchell(
     laid(rows::score_row_mitchell(setting, weights, frame, residues))
 }
 
+// `[..]` is the whole slice, in registers: given as it came, it would go through memory to a row that is not written into this function.
 #[no_mangle]
 pub extern "C" fn highvane_score_row_nearest(
     setting: u32,
@@ -138,7 +139,7 @@ pub extern "C" fn highvane_score_row_nearest(
 ) -> ScoredRow
     ensures { λ r. ⌜ RowStruct 2 setting (now (weights .entry)) (now (frame .entry)) (now (residues .entry)) (now (residues .exit)) r ⌝ }
 {
-    laid(rows::score_row_nearest(setting, weights, frame, residues))
+    laid(rows::score_row_nearest(setting, &weights[..], &frame[..], residues))
 }
 
 #[no_mangle]
@@ -150,7 +151,7 @@ pub extern "C" fn highvane_score_row_staged(
 ) -> ScoredRow
     ensures { λ r. ⌜ RowStruct 3 setting (now (weights .entry)) (now (frame .entry)) (now (residues .entry)) (now (residues .exit)) r ⌝ }
 {
-    laid(rows::score_row_staged(setting, weights, frame, residues))
+    laid(rows::score_row_staged(setting, &weights[..], &frame[..], residues))
 }
 
 #[no_mangle]

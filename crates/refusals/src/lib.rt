@@ -9,7 +9,6 @@ pub use products::of_operands;
 pub use products::of_setting;
 pub use products::takes_setting;
 pub use rows::of_design;
-pub use rows::of_pairs;
 pub use rows::of_row;
 
 // Products; a row has the first and the third of these too.

@@ -1,7 +1,7 @@
 // The refusals of a row: by its design and setting, by its pairs, and by the places for its residues.
 ghost use mathlib.Core.Path.{_≡_};
 ghost use Rattle.designs.specs.Outcomes.{first};
-ghost use Rattle.designs.specs.Scoring.{designRefusals, pairRefusals, rowRefusals};
+ghost use Rattle.designs.specs.Scoring.{designRefusals, rowRefusals};
 
 // The width at which a row is scored, and the most pairs that it may have.
 const ROW_WIDTH: u32 = 16;
@@ -23,19 +23,6 @@ pub fn of_design(design: u32, setting: u32) -> u32
     0
 }
 
-// The refusal of a row by the lengths of its two slices, or 0.
-pub fn of_pairs(weights: usize, frame: usize) -> u32
-    ensures { λ r. ⌜ r ≡ first (pairRefusals weights frame) ⌝ }
-{
-    if weights != frame {
-        return crate::LENGTHS_DIFFER;
-    }
-    if MOST_PAIRS < weights {
-        return crate::TOO_MANY_PAIRS;
-    }
-    0
-}
-
 // The refusal of a row that is to be scored into so many places, or 0.
 pub fn of_row(design: u32, setting: u32, weights: usize, frame: usize, places: usize) -> u32
     ensures { λ r. ⌜ r ≡ first (rowRefusals design setting weights frame places) ⌝ }
@@ -44,9 +31,11 @@ pub fn of_row(design: u32, setting: u32, weights: usize, frame: usize, places: u
     if by_design != 0 {
         return by_design;
     }
-    let by_pairs = of_pairs(weights, frame);
-    if by_pairs != 0 {
-        return by_pairs;
+    if weights != frame {
+        return crate::LENGTHS_DIFFER;
+    }
+    if MOST_PAIRS < weights {
+        return crate::TOO_MANY_PAIRS;
     }
     if places < weights {
         return crate::RESIDUES_TOO_SHORT;
