@@ -1,7 +1,7 @@
-// A pair of 16-bit numbers, a weight and a number of a frame: its true product, the size of that, and whether the pair counts. No branch of
+// A pair of 16-bit numbers, a weight and a number of a frame: its true product, the size of that, and whether it holds a zero. No branch of
 // the compiled code depends on the numbers. And how many pairs there are, by the lengths of their slices.
 ghost use mathlib.Core.Path.{_≡_};
-ghost use Prim.Native.Nat.{min};
+ghost use Prim.Native.Nat.{min, _-_};
 ghost use lib.IntN.{natAbs, _*ℤ_};
 ghost use Rattle.designs.specs.Rows.{nonzero};
 ghost use Rattle.pairs.specs.Lengths.{pairsOf};
@@ -24,14 +24,14 @@ pub fn true_size(w: i16, x: i16) -> u32
     z as u32
 }
 
-// 1 for a pair without a zero, otherwise 0.
-pub fn counts(w: i16, x: i16) -> u32
-    ensures { λ r. ⌜ r ≡ nonzero w x ⌝ }
+// 1 for a pair that holds a zero, otherwise 0.
+pub fn holds_zero(w: i16, x: i16) -> u32
+    ensures { λ r. ⌜ r ≡ 1 - nonzero w x ⌝ }
 {
     if true_product(w, x) == 0 {
-        return 0;
+        return 1;
     }
-    1
+    0
 }
 
 // The smaller of two lengths.

@@ -79,10 +79,10 @@ module _ (design setting : ℕ) (ws fs before : List ℤ) where
         }
 
     module _ {after : List ℤ} {s : Sums} (all : Complete D ws fs before after s) where
-      pub room : Roomy s
-      room = roomy all (ready .pairs)
+      pub room : Roomy s × (s .«zero_pairs» ≤ length ws)
+      room = (roomy all (ready .pairs), omega (arith, all .pairs-is))
 
-      pub score : {r : RowReport} → reportOf r ≡ reportBy s → Scoring design setting ws fs before after (S.Report r)
+      pub score : {r : RowReport} → reportOf r ≡ reportBy s (length ws) → Scoring design setting ws fs before after (S.Report r)
       unfolding rowOutcome rowWritten rowRefusal
       score {r} by =
           record {

@@ -28,7 +28,7 @@ count-next : (f : ℕ → ℕ) (n : ℕ) → count f (n + 1) ≡ count f n + f n
 unfolding count
 count-next f n = rw (add-one n)
 
-pub counts-once : (w x : ℤ) → nonzero w x ≤ 1
+counts-once : (w x : ℤ) → nonzero w x ≤ 1
 counts-once w x = once (natAbs w) (natAbs x)
   where
     once : (A B : ℕ) → unlessZero A B 1 ≤ 1
@@ -48,7 +48,6 @@ nothing z ws fs before =
       true-size = omega arith;
       error-size = omega arith;
       magnitude-size = omega arith;
-      pairs-size = omega arith;
       fits = λ k h. absurd (omega arith);
       places = none-done z before;
     }
@@ -63,11 +62,10 @@ with-next {z} {ws} {fs} {i = i} {s} {r} so-far l er hr hf =
       true-is = ap (λ (t : ℤ). t +ℤ w *ℤ x) (so-far .true-is) ∙ sym (total-next (ofPair _*ℤ_ ws fs) i);
       error-is = ap₂ _+ℤ_ (so-far .error-is) er ∙ sym (total-next z i);
       magnitude-is = ap (λ (m : ℕ). m + natAbs (w *ℤ x)) (so-far .magnitude-is) ∙ sym (count-next (ofPair (λ w x. natAbs (w *ℤ x)) ws fs) i);
-      pairs-is = ap (λ (n : ℕ). n + nonzero w x) (so-far .pairs-is) ∙ sym (count-next (ofPair nonzero ws fs) i);
+      pairs-is = omega (arith, so-far .pairs-is, count-next (ofPair nonzero ws fs) i, counts-once w x);
       true-size = omega (arith, size-add (s .«true_sum») (w *ℤ x), so-far .true-size, true-size (hf .0) (hf .1));
       error-size = omega (arith, size-add (s .error) r, so-far .error-size);
       magnitude-size = omega (arith, so-far .magnitude-size, true-size (hf .0) (hf .1));
-      pairs-size = omega (arith, so-far .pairs-size, counts-once w x);
       fits = λ k g. either-lt k i (so-far .fits k) (λ b. let q : k ≡ i = omega arith in rw q hf);
       places = next-done z i r (so-far .places) l er;
     }
@@ -84,5 +82,5 @@ roomy so-far few =
       true-sum = omega (arith, so-far .true-size);
       error = omega (arith, so-far .error-size);
       magnitude-sum = omega (arith, so-far .magnitude-size);
-      pairs = omega (arith, so-far .pairs-size);
+      pairs = omega (arith, so-far .pairs-is);
     }

@@ -67,12 +67,13 @@ module _ (ws fs : List ℤ) (same : length ws ≡ length fs) where
 
 module _ (D : Design) (ws fs before after : List ℤ) (s : Sums) (same : length ws ≡ length fs) (room : length ws ≤ length before)
     (all : Reached (ofPair (residue D) ws fs) ws fs before after (length ws) s) where
-  pub whole-report : reportBy s ≡ report D ws fs
+  pub whole-report : reportBy s (length ws) ≡ report D ws fs
   unfolding report residue
   whole-report =
       let t = all .true-is ∙ wholeℤ ws fs same _*ℤ_ in
       let e = all .error-is ∙ wholeℤ ws fs same (residue D) ∙ sym (sum-minus _*ℤ_ (signedProduct D) ws fs) in
-      rw (ap₂ _-ℤ_ t e ∙ left (sumℤ (pairwise _*ℤ_ ws fs)) (sumℤ (pairwise (signedProduct D) ws fs)), t, e, all .magnitude-is ∙ wholeℕ ws fs same (λ w x. natAbs (w *ℤ x)), all .pairs-is ∙ wholeℕ ws fs same nonzero)
+      let n : length ws - s .«zero_pairs» ≡ count (ofPair nonzero ws fs) (length ws) = omega (arith, all .pairs-is) in
+      rw (ap₂ _-ℤ_ t e ∙ left (sumℤ (pairwise _*ℤ_ ws fs)) (sumℤ (pairwise (signedProduct D) ws fs)), t, e, all .magnitude-is ∙ wholeℕ ws fs same (λ w x. natAbs (w *ℤ x)), n ∙ wholeℕ ws fs same nonzero)
 
   pub whole-residues : after ≡ residues D ws fs ++ drop (length ws) before
   unfolding residues

@@ -26,11 +26,11 @@ pub record Roomy (s : Sums) : Type 0 where
   pub true-sum : natAbs (s .«true_sum») < 2 ^ 62
   pub error : natAbs (s .error) < 2 ^ 62
   pub magnitude-sum : s .«magnitude_sum» < 2 ^ 62
-  pub pairs : s .«nonzero_pairs» < 2 ^ 31
+  pub pairs : s .«zero_pairs» < 2 ^ 31
 
 -- the sums of no pairs
 abbrev pub noSums : Sums
-noSums = record { «true_sum» = pos 0; error = pos 0; «magnitude_sum» = 0; «nonzero_pairs» = 0 }
+noSums = record { «true_sum» = pos 0; error = pos 0; «magnitude_sum» = 0; «zero_pairs» = 0 }
 
 -- the sums with the pair w, x, whose residue is r
 abbrev pub withPair : Sums → ℤ → ℤ → ℤ → Sums
@@ -39,18 +39,18 @@ withPair s w x r =
       «true_sum» = s .«true_sum» +ℤ w *ℤ x;
       error = s .error +ℤ r;
       «magnitude_sum» = s .«magnitude_sum» + natAbs (w *ℤ x);
-      «nonzero_pairs» = s .«nonzero_pairs» + nonzero w x;
+      «zero_pairs» = s .«zero_pairs» + (1 - nonzero w x);
     }
 
--- the report that the sums make
-abbrev pub reportBy : Sums → Report
-reportBy s =
+-- the report that the sums of n pairs make
+abbrev pub reportBy : Sums → ℕ → Report
+reportBy s n =
     record {
       score = s .«true_sum» -ℤ s .error;
       trueSum = s .«true_sum»;
       error = s .error;
       magnitudeSum = s .«magnitude_sum»;
-      nonzeroPairs = s .«nonzero_pairs»;
+      nonzeroPairs = n - s .«zero_pairs»;
     }
 
 -- What has been reached after n pairs of a row whose residues are z: the sums of these pairs, each with a bound that n gives it, and
@@ -59,11 +59,10 @@ pub record Reached (z : ℕ → ℤ) (ws fs before after : List ℤ) (n : ℕ) (
   pub true-is : s .«true_sum» ≡ total (ofPair _*ℤ_ ws fs) n
   pub error-is : s .error ≡ total z n
   pub magnitude-is : s .«magnitude_sum» ≡ count (ofPair (λ w x. natAbs (w *ℤ x)) ws fs) n
-  pub pairs-is : s .«nonzero_pairs» ≡ count (ofPair nonzero ws fs) n
+  pub pairs-is : s .«zero_pairs» + count (ofPair nonzero ws fs) n ≡ n
   pub true-size : natAbs (s .«true_sum») ≤ n * 2 ^ 30
   pub error-size : natAbs (s .error) ≤ n * 2 ^ 31
   pub magnitude-size : s .«magnitude_sum» ≤ n * 2 ^ 30
-  pub pairs-size : s .«nonzero_pairs» ≤ n
   pub fits : (k : ℕ) → k < n → Fits16 ws fs k
   pub places : Done z n before after
 

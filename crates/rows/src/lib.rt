@@ -82,7 +82,10 @@ pub fn score_row_mitchell(
     if refusal != 0 {
         return Scored::Refused(refusal);
     }
-    Scored::Report(report_of(one_by_one::mitchell(weights, frame, residues)))
+    Scored::Report(report_of(
+        one_by_one::mitchell(weights, frame, residues),
+        weights.len(),
+    ))
 }
 
 // By design 2 alone, the nearest power, which takes the setting 0.
@@ -99,9 +102,12 @@ pub fn score_row_nearest(
         return Scored::Refused(refusal);
     }
     if weights.len() < FEW {
-        return Scored::Report(report_of(one_by_one::nearest(weights, frame, residues)));
+        return Scored::Report(report_of(
+            one_by_one::nearest(weights, frame, residues),
+            weights.len(),
+        ));
     }
-    Scored::Report(report_of(by_blocks::nearest(weights, frame, residues)))
+    Scored::Report(report_of(by_blocks::nearest(weights, frame, residues), weights.len()))
 }
 
 // By design 3 alone; the setting is the number of stages.
@@ -118,9 +124,15 @@ pub fn score_row_staged(
         return Scored::Refused(refusal);
     }
     if weights.len() < FEW {
-        return Scored::Report(report_of(one_by_one::staged(setting, weights, frame, residues)));
+        return Scored::Report(report_of(
+            one_by_one::staged(setting, weights, frame, residues),
+            weights.len(),
+        ));
     }
-    Scored::Report(report_of(by_blocks::staged(setting, weights, frame, residues)))
+    Scored::Report(report_of(
+        by_blocks::staged(setting, weights, frame, residues),
+        weights.len(),
+    ))
 }
 
 // By design 4 alone; the setting is the number of kept bits.
@@ -136,5 +148,8 @@ pub fn score_row_truncated(
     if refusal != 0 {
         return Scored::Refused(refusal);
     }
-    Scored::Report(report_of(one_by_one::truncated(setting, weights, frame, residues)))
+    Scored::Report(report_of(
+        one_by_one::truncated(setting, weights, frame, residues),
+        weights.len(),
+    ))
 }

@@ -1,18 +1,19 @@
 // The sums of a row, whatever its design: what a pair adds to them, and what a block of pairs does.
 ghost use mathlib.Core.Path.{_≡_};
-ghost use Prim.Native.Nat.{ℕ, _+_, _^_, _<_};
+ghost use Prim.Native.Nat.{ℕ, _+_, _^_, _≤_, _<_};
 ghost use mathlib.Core.List.{List};
 ghost use lib.IntN.{ℤ, natAbs};
 ghost use Rattle.rows.specs.Answers.{reportOf};
 ghost use Rattle.rows.specs.Totals.{Addable, noSums, Reached, reportBy, Roomy, Turnable, withPair};
 use crate::RowReport;
 
-// The sums of some pairs. Their number has 32 bits, so that the compiler counts four pairs at a time.
+// The sums of some pairs. Counted are those that hold a zero: adding up a comparison with 0 takes one instruction less than adding up its
+// opposite. Their number has 32 bits, so that the compiler counts four pairs at a time.
 pub(crate) struct Sums {
     true_sum: i64,
     error: i64,
     magnitude_sum: u64,
-    nonzero_pairs: u32,
+    zero_pairs: u32,
 }
 
 // The sums of no pairs.
@@ -23,7 +24,7 @@ pub(crate) fn no_sums() -> Sums
         true_sum: 0,
         error: 0,
         magnitude_sum: 0,
-        nonzero_pairs: 0,
+        zero_pairs: 0,
     }
 }
 
@@ -36,7 +37,7 @@ fn with_pair(sums: Sums, w: i16, x: i16, residue: i64) -> Sums
         true_sum: sums.true_sum + pairs::true_product(w, x) as i64,
         error: sums.error + residue,
         magnitude_sum: sums.magnitude_sum + pairs::true_size(w, x) as u64,
-        nonzero_pairs: sums.nonzero_pairs + pairs::counts(w, x),
+        zero_pairs: sums.zero_pairs + pairs::holds_zero(w, x),
     }
 }
 
@@ -82,16 +83,16 @@ pub(crate) fn add(
     all
 }
 
-// The report that the sums make.
-pub(crate) fn report_of(sums: Sums) -> RowReport
-    requires { ⌜ Roomy sums ⌝ }
-    ensures { λ r. ⌜ reportOf r ≡ reportBy sums ⌝ }
+// The report that the sums of so many pairs make.
+pub(crate) fn report_of(sums: Sums, pairs: usize) -> RowReport
+    requires { ⌜ Roomy sums × (sums .«zero_pairs» ≤ pairs) ⌝ }
+    ensures { λ r. ⌜ reportOf r ≡ reportBy sums pairs ⌝ }
 {
     RowReport {
         score: sums.true_sum - sums.error,
         true_sum: sums.true_sum,
         error: sums.error,
         magnitude_sum: sums.magnitude_sum,
-        nonzero_pairs: sums.nonzero_pairs as u64,
+        nonzero_pairs: pairs as u64 - sums.zero_pairs as u64,
     }
 }

@@ -1,4 +1,4 @@
--- Both sums are below 2^62 in size, so their difference fits. Assumes nothing.
+-- Both sums are below 2^62 in size, so their difference fits; and the pairs with a zero are some of all. Assumes nothing.
 use borrow.Author.Needs.{needs}
 use mathlib.Core.Path.{_≡_, refl}
 use Prim.Native.Nat.{ℕ}
@@ -21,16 +21,16 @@ module _ (c : tie.Start) where
   e = c .args .sums .error
 
   t-read : toZ w64 (ofZ w64 t) ≡ t
-  t-read = toZ-ofZ (sized t (omega (arith, c .pre .true-sum)))
+  t-read = toZ-ofZ (sized t (omega (arith, c .pre .0 .true-sum)))
 
   e-read : toZ w64 (ofZ w64 e) ≡ e
-  e-read = toZ-ofZ (sized e (omega (arith, c .pre .error)))
+  e-read = toZ-ofZ (sized e (omega (arith, c .pre .0 .error)))
 
   score-is : toZ w64 (ofZ w64 t) -ℤ toZ w64 (ofZ w64 e) ≡ t -ℤ e
   score-is = rw (t-read, e-read) refl
 
   score-fits : SFits w64 (t -ℤ e)
-  score-fits = sized (t -ℤ e) (omega (arith, size-add t (negℤ e), size-neg e, c .pre .true-sum, c .pre .error))
+  score-fits = sized (t -ℤ e) (omega (arith, size-add t (negℤ e), size-neg e, c .pre .0 .true-sum, c .pre .0 .error))
 
 equal : {a a' t t' e e' : ℤ} {m n : ℕ} → a ≡ a' → t ≡ t' → e ≡ e'
     → _≡_ {A = Report} (record { score = a; trueSum = t; error = e; magnitudeSum = m; nonzeroPairs = n }) (record { score = a'; trueSum = t'; error = e'; magnitudeSum = m; nonzeroPairs = n })
@@ -43,4 +43,4 @@ returns c =
 
 pub report-of-spec : {M : Type 1} → statement M
 report-of-spec =
-    tie.close (tie.spec (λ c. fits-as (score-is (c .before .before)) (score-fits (c .before .before))) (λ c. search needs) returns)
+    tie.close (tie.spec (λ c. fits-as (score-is (c .before .before)) (score-fits (c .before .before))) (λ c. search needs) (λ c. c .before .before .before .pre .1) returns)

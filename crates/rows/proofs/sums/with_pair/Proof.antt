@@ -1,7 +1,7 @@
 -- A pair adds at most 2^30 to each sum, and at most 1 to the number of pairs; so each fits. Assumes nothing.
 use borrow.Author.Needs.{needs}
 use mathlib.Core.Path.{_≡_, refl, ap, ap₂, _∙_}
-use Prim.Native.Nat.{ℕ, _+_, _^_, _<_}
+use Prim.Native.Nat.{ℕ, _+_, _-_, _^_, _<_}
 use native.Mathlib.Omega.{arith}
 use lib.IntN.{ℤ, natAbs, _+ℤ_, _*ℤ_}
 use mir.Syntax.{w32, w64}
@@ -12,7 +12,6 @@ use Rattle.designs.proofs.Sizes.{size-add}
 use Rattle.pairs.proofs.Integers.{true-size, widened, widens}
 use Rattle.signs.proofs.Integers.{fits-as, read-as, sized}
 use Rattle.rows.specs.declared.sums.Sums.{Sums}
-use Rattle.rows.proofs.Turn.{counts-once}
 use Rattle.rows.proofs.sums.with_pair.Statement.{statement}
 use Rattle.rows.proofs.sums.with_pair.Tie as tie
 
@@ -24,7 +23,7 @@ plus : (a b : ℤ) → natAbs a < 2 ^ 62 → natAbs b < 2 ^ 62 → SFits w64 (a 
 plus a b h g = sized _ (omega (arith, size-add a b))
 
 equal : {t t' e e' : ℤ} {m m' n n' : ℕ} → t ≡ t' → e ≡ e' → m ≡ m' → n ≡ n'
-    → _≡_ {A = Sums} (record { «true_sum» = t; error = e; «magnitude_sum» = m; «nonzero_pairs» = n }) (record { «true_sum» = t'; error = e'; «magnitude_sum» = m'; «nonzero_pairs» = n' })
+    → _≡_ {A = Sums} (record { «true_sum» = t; error = e; «magnitude_sum» = m; «zero_pairs» = n }) (record { «true_sum» = t'; error = e'; «magnitude_sum» = m'; «zero_pairs» = n' })
 equal et ee em en = rw (et, ee, em, en) refl
 
 -- what the callees give, of the numbers themselves
@@ -59,23 +58,23 @@ module _ (c : tie.After-true-product) where
   error-fits : SFits w64 (sums .error +ℤ start .args .residue)
   error-fits = plus (sums .error) (start .args .residue) (start .pre .0 .error) (start .pre .1)
 
-abbrev first : tie.After-counts → tie.After-true-product
+abbrev first : tie.After-holds-zero → tie.After-true-product
 first c = c .before .before .before .before .before .before .before
 
-counted : (c : tie.After-counts) → c .counts .result ≡ nonzero (start (first c) .args .w) (start (first c) .args .x)
-counted c = c .counts .ensures ∙ ap₂ nonzero (toZ-ofZ (start (first c) .fits .w)) (toZ-ofZ (start (first c) .fits .x))
+counted : (c : tie.After-holds-zero) → c .holds-zero .result ≡ 1 - nonzero (start (first c) .args .w) (start (first c) .args .x)
+counted c = c .holds-zero .ensures ∙ ap₂ (λ (w x : ℤ). 1 - nonzero w x) (toZ-ofZ (start (first c) .fits .w)) (toZ-ofZ (start (first c) .fits .x))
 
 add-t13 : tie.Need-add-t13
 add-t13 c =
     let s = start (first (c .before)) in
-    record { fits = omega (arith, counted (c .before), counts-once (s .args .w) (s .args .x), s .pre .0 .pairs) }
+    record { fits = omega (arith, counted (c .before), s .pre .0 .pairs) }
 
 returns : tie.Need-returns
 returns c =
-    let counts = c .before in
-    let b = first counts in
-    let size = counts .before .before .true-size .ensures ∙ ap₂ (λ (w x : ℤ). natAbs (w *ℤ x)) (toZ-ofZ (start b .fits .w)) (toZ-ofZ (start b .fits .x)) in
-    equal (read-as (true-is b) (true-fits b)) (read-as (error-is b) (error-fits b)) (ap (λ (k : ℕ). sums b .«magnitude_sum» + k) size) (ap (λ (k : ℕ). sums b .«nonzero_pairs» + k) (counted counts))
+    let last = c .before in
+    let b = first last in
+    let size = last .before .before .true-size .ensures ∙ ap₂ (λ (w x : ℤ). natAbs (w *ℤ x)) (toZ-ofZ (start b .fits .w)) (toZ-ofZ (start b .fits .x)) in
+    equal (read-as (true-is b) (true-fits b)) (read-as (error-is b) (error-fits b)) (ap (λ (k : ℕ). sums b .«magnitude_sum» + k) size) (ap (λ (k : ℕ). sums b .«zero_pairs» + k) (counted last))
 
 pub with-pair-spec : {M : Type 1} → statement M
 with-pair-spec =
