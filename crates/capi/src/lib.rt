@@ -129,7 +129,8 @@ pub extern "C" fn highvane_score_row_mitchell(
     laid(rows::score_row_mitchell(setting, weights, frame, residues))
 }
 
-// `[..]` is the whole slice, in registers: given as it came, it would go through memory to a row that is not written into this function.
+// The next two give a slice on as `[..]`, which is all of it: so it reaches the row in registers. Their rows are too long to be compiled into
+// them, and a slice given on as it came would go through memory.
 #[no_mangle]
 pub extern "C" fn highvane_score_row_nearest(
     setting: u32,

@@ -1,4 +1,4 @@
--- A pair adds at most 2^30 to each sum, and at most 1 to the number of pairs; so each fits. Assumes nothing.
+-- A pair adds at most 2^62 to each sum, and at most 1 to the number of pairs that hold a zero; so each fits. Assumes nothing.
 use borrow.Author.Needs.{needs}
 use mathlib.Core.Path.{_≡_, refl, ap, ap₂, _∙_}
 use Prim.Native.Nat.{ℕ, _+_, _-_, _^_, _<_}
