@@ -7,8 +7,8 @@ ghost use Rattle.rows.specs.Answers.{reportOf};
 ghost use Rattle.rows.specs.Totals.{Addable, noSums, Reached, reportBy, Roomy, Turnable, withPair};
 use crate::RowReport;
 
-// The sums of some pairs. Counted are those that hold a zero: adding up a comparison with 0 takes one instruction less than adding up its
-// opposite. Their number has 32 bits, so that the compiler counts four pairs at a time.
+// The sums of some pairs. Counted are those that hold a zero: where several pairs are taken at a time, adding up a comparison with 0 takes an
+// instruction less than adding up its opposite. Their number has 32 bits, so that the compiler counts four pairs at a time.
 pub(crate) struct Sums {
     true_sum: i64,
     error: i64,

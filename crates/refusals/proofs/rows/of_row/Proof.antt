@@ -11,14 +11,14 @@ use Rattle.designs.proofs.Refusals.{of-first, of-second}
 use Rattle.refusals.proofs.rows.of_row.Statement.{statement}
 use Rattle.refusals.proofs.rows.of_row.Tie as tie
 
+-- the refusals by the design and its setting, and those by the lengths
 abbrev design : tie.Start → List Refusal
 design c = designRefusals (c .args .design) (c .args .setting)
 
--- those of the lengths
 abbrev lengths : tie.Start → List Refusal
 lengths c = pairRefusals (c .args .weights) (c .args .frame) ++ (residuesTooShort (c .args .places) (c .args .weights) ∷ [])
 
--- where the design is not refused, they decide
+-- past the first list the second decides
 past-design : (c : tie.Else1) → let start = c .before .before in first (lengths start) ≡ first (design start ++ lengths start)
 unfolding designRefusals
 past-design c = let start = c .before .before in of-second (design start) (lengths start) tt (c .before .of-design .ensures) (c .if1 .left)

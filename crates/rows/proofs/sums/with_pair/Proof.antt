@@ -1,4 +1,5 @@
--- A pair adds at most 2^62 to each sum, and at most 1 to the number of pairs that hold a zero; so each fits. Assumes nothing.
+-- Each sum is below 2^62 in size, and so is what a pair adds to it; to the number of pairs that hold a zero it adds at most 1. So each
+-- fits. Assumes nothing.
 use borrow.Author.Needs.{needs}
 use mathlib.Core.Path.{_≡_, refl, ap, ap₂, _∙_}
 use Prim.Native.Nat.{ℕ, _+_, _-_, _^_, _<_}
