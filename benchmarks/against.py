@@ -4,9 +4,10 @@
 Both are linked into one program and take turns on rows that neither has seen; times are medians, as in benchmarks/run.py, and
 instructions are callgrind's, of one call. Both are first compared on the reports and the residues of many rows.
 
-Usage: python3 benchmarks/against.py OTHER [ARCHIVE] [--pairs=N,N,...]
+Usage: python3 benchmarks/against.py OTHER [ARCHIVE] [--pairs=N,N,...] [--designs=N]
 
-The default of ARCHIVE is target/libhighvane.a; rows have 1, 8 and 4,096 pairs, or as many as --pairs says.
+The default of ARCHIVE is target/libhighvane.a; rows have 1, 8 and 4,096 pairs, or as many as --pairs says. Where the other archive lacks the
+last designs, --designs says how many it has.
 """
 import sys
 import tempfile
@@ -14,17 +15,18 @@ from pathlib import Path
 
 sys.dont_write_bytecode = True  # nothing is to appear in the repository
 
-from measure import OURS, Code, archive_of, counts, link_rows, output, times  # noqa: E402
+from measure import BY_ITSELF, OURS, Code, archive_of, counts, link_rows, output, times  # noqa: E402
 from row_tables import DESIGNS, PAIRS, number, table  # noqa: E402
 
 PREFIX = 'other_'
 SETTINGS = DESIGNS | {(3, 8): '3, s = 8'}
 
 
-def compare(program, lengths):
+def compare(program, lengths, designs):
     names = [OURS, PREFIX + OURS]
-    output([program, 'check'])
-    calls = [(*key, pairs) for key in sorted(SETTINGS) for pairs in lengths]
+    keys = [key for key in sorted(SETTINGS) if key[0] <= designs]
+    output([program, 'check', designs])
+    calls = [(*key, pairs) for key in keys for pairs in lengths]
     lines = {(call, name): f'{name} uniform {" ".join(map(str, (*call, call[-1], call[-1])))}' for call in calls for name in names}
     taken = times(program, calls)
     counted, _ = counts(program, names, list(lines.values()))
@@ -32,7 +34,7 @@ def compare(program, lengths):
     def print_table(title, figure):
         print(f'{title}, by the number of pairs:\n')
         body = []
-        for key in sorted(SETTINGS):
+        for key in keys:
             cells = [SETTINGS[key]]
             for call in ((*key, pairs) for pairs in lengths):
                 ours, other = (figure(call, name) for name in names)
@@ -47,17 +49,22 @@ def compare(program, lengths):
 
 
 def main():
-    chosen = [word.removeprefix('--pairs=').split(',') for word in sys.argv[1:] if word.startswith('--pairs=')]
+    def numbers(option):
+        return [word.removeprefix(option).split(',') for word in sys.argv[1:] if word.startswith(option)]
+
+    chosen, designs = numbers('--pairs='), numbers('--designs=')
     archives = [word for word in sys.argv[1:] if not word.startswith('-')]
-    known = len(archives) in (1, 2) and len(chosen) <= 1 and len(archives) + len(chosen) == len(sys.argv) - 1
-    if not known or not all(length.isdecimal() for lengths in chosen for length in lengths):
+    known = len(archives) in (1, 2) and len(chosen) <= 1 and [len(each) for each in designs] in ([], [1])
+    known = known and len(archives) + len(chosen) + len(designs) == len(sys.argv) - 1
+    if not known or not all(word.isdecimal() for words in chosen + designs for word in words):
         sys.exit(__doc__)
     other, archive = archive_of(archives[0]), archive_of(*archives[1:])
     with tempfile.TemporaryDirectory() as name:
         folder = Path(name)
         output(['objcopy', f'--prefix-symbols={PREFIX}', other, folder / 'other.a'])
         link_rows([OURS, PREFIX + OURS], [archive, folder / 'other.a'], folder / 'rows')
-        compare(folder / 'rows', [int(length) for length in chosen[0]] if chosen else [1, 8, PAIRS])
+        lengths = [int(length) for length in chosen[0]] if chosen else [1, 8, PAIRS]
+        compare(folder / 'rows', lengths, int(designs[0][0]) if designs else max(BY_ITSELF))
 
 
 main()

@@ -8,7 +8,7 @@ HERE = Path(__file__).resolve().parent
 INCLUDE = HERE.parent / 'include'
 OURS = 'highvane_score_row'
 # the row of each design by itself
-BY_ITSELF = {1: f'{OURS}_mitchell', 2: f'{OURS}_nearest', 3: f'{OURS}_staged', 4: f'{OURS}_truncated'}
+BY_ITSELF = {1: f'{OURS}_mitchell', 2: f'{OURS}_nearest', 3: f'{OURS}_staged', 4: f'{OURS}_truncated', 5: f'{OURS}_twice_truncated'}
 # The rows written by hand are compiled for baseline x86-64, as the archive is: no instruction that it may not use too. Some gcc
 # put landing marks for indirect branches at the start of each function by themselves; the archive has none, so the rows get none.
 C = ['gcc', '-std=gnu11', '-Wall', '-Wextra', '-fcf-protection=none', f'-I{INCLUDE}', f'-I{HERE}']

@@ -89,7 +89,7 @@ static unsigned long row_refusals(int refused, const char *line) {
 static size_t put_record(uint8_t *at, int kind) {
     static const size_t bodies[] = {0, 6, 8, 2};
     uint32_t a = kind == 2 ? normal_pattern() : (uint32_t)seeded(), b = kind == 2 ? normal_pattern() : (uint32_t)seeded();
-    uint8_t design = (uint8_t)(1 + seeded() % 4), body[8] = {0};
+    uint8_t design = (uint8_t)(1 + seeded() % 5), body[8] = {0};
     if (kind == 1) {
         body[0] = design;
         body[1] = design < 3 ? 0 : 6;

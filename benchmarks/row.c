@@ -6,15 +6,19 @@
  * Two choices are open, and run.py measures all four, so that none of them is picked for the comparison:
  *   ONE_LOOP      one loop that asks for the design at each pair; otherwise a loop for each design, faster and larger
  *   MASKED_SIGNS  signs by masks; otherwise by a branch, which is fewer instructions and is predicted wrongly where signs vary
- * And design 1 can be had by other means, as a measure of what is possible:
- *   PATTERNS      by binary32 patterns, which are logarithms, as the library has it; it does not shift and add
+ * And designs 1 and 5 can be had by other means, as a measure of what is possible:
+ *   PATTERNS      by binary32 patterns, which are logarithms, as the library has design 1; they do not shift and add
  *
  * The rest is what gave the fewest instructions at gcc -O3. These were measured and gave more, for a pair where each design has
  * its loop: Mitchell with its leading ones cleared and its sum compared (1 to 11 more); the nearest power by a bit or a condition
  * (2 to 8); the stages with their leading ones cleared by `&` or `^` (2 to 3 a stage); the truncated product scaled down by 2^t
- * and up again (7 to 8); counting the pairs without a 0 and not those with one (1 to 2); summing the error and the true products
- * below 0, as the library does, and not the score and the sizes (1 with a branch on signs; with masks from 1 less to 1 more). A
- * branch on the carry of the fractions gave 1 less, and at every other pair one more branch that is predicted wrongly.
+ * and up again (7 to 8); the twice truncated one so scaled (14 to 15), with what is left by a mask that is shifted down (4) or by
+ * differences under masks (10 to 11), with the carry into the exponent by a condition (1 to 2), and with parts that are 0 by
+ * masks (6 to 12); counting the pairs without a 0 and not those with one (1 to 2); summing the error and the true products below
+ * 0, as the library does, and not the score and the sizes (1 with a branch on signs; with masks from 1 less to 1 more). A branch
+ * on the carry of the fractions gave 1 less, or up to 2 in design 5, and at every other pair one more branch that is predicted
+ * wrongly, so that design 5 took 1.4 to 1.5 times the time; so it did with what is left by a condition, of which gcc makes a
+ * branch. None of the other forms of design 5 was faster, and none took above 1.11 times the time.
  */
 #include <stdlib.h>
 #include <string.h>
@@ -71,10 +75,27 @@ static inline uint32_t staged(uint32_t stages, uint32_t a, uint32_t b) {
     return sum;
 }
 
-static inline uint32_t truncated(uint32_t kept_bits, uint32_t a, uint32_t b) {
-    uint32_t k = leading_zeros(a), m = leading_zeros(b);
+/* The sum of the kept bits of two fractions and of the carry, below bit 31; the numbers' leading ones stand there and cancel. */
+static inline uint32_t kept_sum(uint32_t kept_bits, uint32_t a, uint32_t b) {
     uint32_t carry = TOP >> kept_bits, kept = -carry;
-    return power_of((a << k & kept) + (b << m & kept) + carry, k + m);
+    return (a & kept) + (b & kept) + carry;
+}
+
+/* Always inlined, since two designs have it: as a call, at gcc -Os, it takes more instructions and more bytes. */
+static inline __attribute__((always_inline)) uint32_t truncated(uint32_t kept_bits, uint32_t a, uint32_t b) {
+    uint32_t k = leading_zeros(a), m = leading_zeros(b);
+    return power_of(kept_sum(kept_bits, a << k, b << m), k + m);
+}
+
+static inline uint32_t twice_truncated(uint32_t kept_bits, uint32_t a, uint32_t b) {
+    uint32_t k = leading_zeros(a), m = leading_zeros(b);
+    a <<= k, b <<= m;
+    uint32_t sum = kept_sum(kept_bits, a, b), carried = (uint32_t)((int32_t)sum >> 31);
+    uint32_t first = (sum | TOP) >> (k + m + carried - 31);
+    /* what is left is the fraction, or where the fractions carry its bits inverted, and never the leading one */
+    uint32_t inverted = carried | TOP;
+    a = (a ^ inverted) >> k, b = (b ^ inverted) >> m;
+    return a && b ? first + truncated(2, a, b) : first;
 }
 
 static inline uint32_t product_of(uint32_t design, uint32_t setting, uint32_t a, uint32_t b) {
@@ -82,7 +103,8 @@ static inline uint32_t product_of(uint32_t design, uint32_t setting, uint32_t a,
     case HIGHVANE_MITCHELL: return mitchell(a, b);
     case HIGHVANE_NEAREST_POWER: return nearest(a, b);
     case HIGHVANE_STAGED: return staged(setting, a, b);
-    default: return truncated(setting, a, b);
+    case HIGHVANE_TRUNCATED: return truncated(setting, a, b);
+    default: return twice_truncated(setting, a, b);
     }
 }
 
@@ -132,23 +154,56 @@ static inline __attribute__((always_inline)) highvane_report accumulate(uint32_t
 }
 
 #ifdef PATTERNS
-static inline uint32_t pattern_of(int32_t x) {
-    float value = (float)x;
+static inline uint32_t pattern_of(float value) {
     uint32_t pattern;
     memcpy(&pattern, &value, sizeof pattern);
     return pattern;
 }
 
+static inline float value_of(uint32_t pattern) {
+    float value;
+    memcpy(&value, &pattern, sizeof value);
+    return value;
+}
+
 /* The patterns of two numbers, added, less that of 1, are the pattern of design 1's product, with its sign. */
-static highvane_report accumulate_patterns(const int16_t *weights, const int16_t *frame, size_t pairs, int64_t *residues) {
+static inline int32_t mitchell_by_patterns(int32_t w, int32_t x, int32_t truth) {
+    uint32_t sum = pattern_of(w) + pattern_of(x) - pattern_of(1);
+    return (int32_t)value_of(truth == 0 ? 0 : sum);
+}
+
+static const uint32_t POWER = 0x7F800000, TWO_KEPT = 0x7FE00000, SECOND_CARRY = 1 << 21;
+
+/* What is left of a size is its distance from the power of two below it, or where the fractions carry from the next one less 1. */
+static inline uint32_t left_by_patterns(float size, uint32_t carried) {
+    float power = value_of(pattern_of(size) & POWER);
+    return pattern_of(size - power - value_of(pattern_of(power - 1) & carried)) & TWO_KEPT;
+}
+
+/* So are those of design 5, of sizes, by what is kept of the patterns and the carry. Where one of the parts left is 0, and so its
+   pattern, the second sum is the pattern of a number below 1, and where both are that of one below 0. No step has a condition that
+   gcc would make a branch of, so it takes four pairs at a time. */
+static inline int32_t twice_by_patterns(uint32_t kept_bits, int32_t w, int32_t x, int32_t truth) {
+    float a = (float)abs(w), b = (float)abs(x);
+    uint32_t carry = 1u << (23 - kept_bits), kept = -carry;
+    uint32_t sum = (pattern_of(a) & kept) + (pattern_of(b) & kept) + (carry - pattern_of(1));
+    /* the last bit of the exponent tells whether the fractions carry into it, and that of the pattern of 1 is set */
+    uint32_t carried = ~(uint32_t)((int32_t)((sum ^ pattern_of(a) ^ pattern_of(b)) << 8) >> 31);
+    float second = value_of(left_by_patterns(a, carried) + left_by_patterns(b, carried) + (SECOND_CARRY - pattern_of(1)));
+    int32_t size = (int32_t)value_of(sum) + (int32_t)(second > 0 ? second : 0), sign = truth >> 31;
+    return ((size ^ sign) - sign) & -(truth != 0);
+}
+
+static inline __attribute__((always_inline)) highvane_report accumulate_patterns(uint32_t design, uint32_t setting,
+                                                                                 const int16_t *weights, const int16_t *frame,
+                                                                                 size_t pairs, int64_t *residues) {
     int64_t true_sum = 0, error = 0;
     uint64_t magnitude_sum = 0, nonzero_pairs = 0;
     for (size_t i = 0; i < pairs; i++) {
         int32_t w = weights[i], x = frame[i], truth = w * x;
-        uint32_t sum = pattern_of(w) + pattern_of(x) - pattern_of(1), masked = truth == 0 ? 0 : sum;
-        float product;
-        memcpy(&product, &masked, sizeof product);
-        int32_t residue = truth - (int32_t)product;
+        int32_t product = design == HIGHVANE_MITCHELL ? mitchell_by_patterns(w, x, truth)
+                                                      : twice_by_patterns(setting, w, x, truth);
+        int32_t residue = truth - product;
         true_sum += truth;
         error += residue;
         magnitude_sum += (uint32_t)abs(truth);
@@ -160,8 +215,9 @@ static highvane_report accumulate_patterns(const int16_t *weights, const int16_t
 #endif
 
 static inline uint32_t refusal_of(uint32_t design, uint32_t setting, size_t weights_len, size_t frame_len, size_t residues_len) {
-    if (design - 1 > 3) return HIGHVANE_UNKNOWN_DESIGN;
-    if (design < HIGHVANE_STAGED ? setting != 0 : setting - 1 > 18 - design) return HIGHVANE_SETTING_OUT_OF_RANGE;
+    if (design - 1 > 4) return HIGHVANE_UNKNOWN_DESIGN;
+    uint32_t most = design == HIGHVANE_STAGED ? 16 : 15;
+    if (design < HIGHVANE_STAGED ? setting != 0 : setting - 1 >= most) return HIGHVANE_SETTING_OUT_OF_RANGE;
     if (weights_len != frame_len) return HIGHVANE_LENGTHS_DIFFER;
     if (weights_len > HIGHVANE_PAIRS_MAX) return HIGHVANE_TOO_MANY_PAIRS;
     if (residues_len < weights_len) return HIGHVANE_RESIDUES_TOO_SHORT;
@@ -173,7 +229,9 @@ highvane_report SCORE_ROW(uint32_t design, uint32_t setting, const int16_t *weig
     uint32_t refusal = refusal_of(design, setting, weights_len, frame_len, residues_len);
     if (refusal) return (highvane_report){.refusal = refusal};
 #ifdef PATTERNS
-    if (design == HIGHVANE_MITCHELL) return accumulate_patterns(weights, frame, weights_len, residues);
+    if (design == HIGHVANE_MITCHELL) return accumulate_patterns(HIGHVANE_MITCHELL, 0, weights, frame, weights_len, residues);
+    if (design == HIGHVANE_TWICE_TRUNCATED)
+        return accumulate_patterns(HIGHVANE_TWICE_TRUNCATED, setting, weights, frame, weights_len, residues);
 #endif
 #ifdef ONE_LOOP
     return accumulate(design, setting, weights, frame, weights_len, residues);
@@ -182,7 +240,8 @@ highvane_report SCORE_ROW(uint32_t design, uint32_t setting, const int16_t *weig
     case HIGHVANE_MITCHELL: return accumulate(HIGHVANE_MITCHELL, 0, weights, frame, weights_len, residues);
     case HIGHVANE_NEAREST_POWER: return accumulate(HIGHVANE_NEAREST_POWER, 0, weights, frame, weights_len, residues);
     case HIGHVANE_STAGED: return accumulate(HIGHVANE_STAGED, setting, weights, frame, weights_len, residues);
-    default: return accumulate(HIGHVANE_TRUNCATED, setting, weights, frame, weights_len, residues);
+    case HIGHVANE_TRUNCATED: return accumulate(HIGHVANE_TRUNCATED, setting, weights, frame, weights_len, residues);
+    default: return accumulate(HIGHVANE_TWICE_TRUNCATED, setting, weights, frame, weights_len, residues);
     }
 #endif
 }

@@ -1,6 +1,8 @@
 //! The row of row.c in Rust as it is usually written: slices, iterators and `NonZeroU32`, and no `unsafe` past the raw arguments.
 //! `--cfg one_loop` asks for the design at each pair; otherwise each design has its loop. The kernels and the branch for the sign
-//! are those that gave the fewest instructions at rustc -O: a sign by select gives 6 to 12 more a pair.
+//! are those that gave the fewest instructions at rustc -O: a sign by select gives 6 to 12 more a pair, and in the twice truncated
+//! product masks shifted down give 1, a sum by a function that both truncated products call gives 2, a branch on the carry 2 to 3,
+//! differences 11 to 14, and kept bits scaled down 14 to 15.
 #![no_std]
 
 use core::num::NonZeroU32;
@@ -58,6 +60,21 @@ fn truncated(kept_bits: u32, a: NonZeroU32, b: NonZeroU32) -> u32 {
     (sum | TOP) >> (k + m - 31 - (sum >> 31))
 }
 
+fn twice_truncated(kept_bits: u32, a: NonZeroU32, b: NonZeroU32) -> u32 {
+    let (k, m) = (a.leading_zeros(), b.leading_zeros());
+    let carry = TOP >> kept_bits;
+    let kept = carry.wrapping_neg();
+    let (a, b) = (a.get() << k, b.get() << m);
+    let sum = (a & kept).wrapping_add(b & kept).wrapping_add(carry);
+    let first = (sum | TOP) >> (k + m - 31 - (sum >> 31));
+    // what is left is the fraction, or where the fractions carry its bits inverted, and never the leading one
+    let inverted = if sum < TOP { TOP } else { u32::MAX };
+    match (NonZeroU32::new((a ^ inverted) >> k), NonZeroU32::new((b ^ inverted) >> m)) {
+        (Some(x), Some(y)) => first + truncated(2, x, y),
+        _ => first,
+    }
+}
+
 fn accumulate<K: Fn(NonZeroU32, NonZeroU32) -> u32>(weights: &[i16], frame: &[i16], residues: &mut [i64], kernel: K) -> Report {
     let mut report = Report::default();
     for ((&w, &x), residue) in weights.iter().zip(frame).zip(residues) {
@@ -87,7 +104,7 @@ fn refusal_of(design: u32, setting: u32, weights: &[i16], frame: &[i16], residue
     let taken = match design {
         1 | 2 => setting == 0,
         3 => (1..=16).contains(&setting),
-        4 => (1..=15).contains(&setting),
+        4 | 5 => (1..=15).contains(&setting),
         _ => return Some(1),
     };
     if !taken {
@@ -112,14 +129,16 @@ fn score_row(design: u32, setting: u32, weights: &[i16], frame: &[i16], residues
             1 => mitchell(a, b),
             2 => nearest(a, b),
             3 => staged(setting, a, b),
-            _ => truncated(setting, a, b),
+            4 => truncated(setting, a, b),
+            _ => twice_truncated(setting, a, b),
         });
     }
     match design {
         1 => accumulate(weights, frame, residues, mitchell),
         2 => accumulate(weights, frame, residues, nearest),
         3 => accumulate(weights, frame, residues, |a, b| staged(setting, a, b)),
-        _ => accumulate(weights, frame, residues, |a, b| truncated(setting, a, b)),
+        4 => accumulate(weights, frame, residues, |a, b| truncated(setting, a, b)),
+        _ => accumulate(weights, frame, residues, |a, b| twice_truncated(setting, a, b)),
     }
 }
 

@@ -3,7 +3,9 @@ from measure import BEST_ROWS, BY_ITSELF, C_ROWS, OURS, ROWS, Code, run_bytes, t
 
 PAIRS = 4096
 DESIGNS = {(1, 0): '1', (2, 0): '2', (3, 1): '3, s = 1', (3, 2): '3, s = 2', (3, 4): '3, s = 4', (3, 16): '3, s = 16',
-           (4, 6): '4, t = 6', (4, 15): '4, t = 15'}
+           (4, 6): '4, t = 6', (4, 15): '4, t = 15', (5, 6): '5, t = 6', (5, 15): '5, t = 15'}
+# the designs that row.c has by patterns too, and those that keep bits
+PATTERNS, KEEPING = (1, 5), (4, 5)
 DATA = {'uniform': 'Uniform over all 65,536 numbers', 'small': 'Small numbers, some of them 0'}
 MASKED, BRANCHING = ['c_each_masked', 'c_one_masked'], ['c_each', 'c_one']
 COLUMNS = {OURS: 'ours', 'c_each_masked': 'each, masked', 'c_each': 'each', 'c_one_masked': 'one, masked', 'c_one': 'one',
@@ -72,7 +74,7 @@ def time_tables(program):
     long, short = [], []
     for key, label in designs.items():
         ours, best, native = (of(key, PAIRS, names) / PAIRS for names in ([OURS], C_ROWS, natives))
-        by_patterns = [f'{of(key, PAIRS, [name]) / PAIRS:.2f}' if key[0] == 1 else '' for name in patterns]
+        by_patterns = [f'{of(key, PAIRS, [name]) / PAIRS:.2f}' if key[0] in PATTERNS else '' for name in patterns]
         branch = of(key, PAIRS, BRANCHING) / PAIRS
         long.append([label, f'{ours:.2f}', f'{best:.2f}', f'{ours / best:.2f}', f'{native:.2f}', f'{ours / native:.2f}', *by_patterns,
                      f'{branch:.2f}'])
@@ -106,9 +108,10 @@ def growth_tables(rows):
 
 
 def own_table(rows):
-    """The row of each design by itself, and what deciding between them adds. A pair takes the same either way, and by design 4 with every
-    setting, or else a loop would choose; where it does not, this stops."""
-    keys = {key: label for key, label in DESIGNS.items() if key[0] != 4} | {(4, t): '4, every t' for t in range(1, 16)}
+    """The row of each design by itself, and what deciding between them adds. A pair takes the same either way, and by designs 4 and 5 with
+    every setting, or else a loop would choose; where it does not, this stops."""
+    keys = {key: label for key, label in DESIGNS.items() if key[0] not in KEEPING}
+    keys |= {(design, t): f'{design}, every t' for design in KEEPING for t in range(1, 16)}
     body = {}
     for (design, setting), label in keys.items():
         own, any_design = ([rows.count(name, 'uniform', design, setting, n) for n in (*LENGTHS, 2 * 64)]
@@ -129,7 +132,7 @@ def own_code_table(program):
 def refusal_table(rows):
     def counted(design, setting, pairs, frame, places):
         return number(rows.count(OURS, 'uniform', design, setting, pairs, frame, places))
-    body = [['1', *(counted(5, 0, n, n, n) for n in LENGTHS)], ['3', *(counted(1, 1, n, n, n) for n in LENGTHS)],
+    body = [['1', *(counted(6, 0, n, n, n) for n in LENGTHS)], ['3', *(counted(1, 1, n, n, n) for n in LENGTHS)],
             ['5', *(counted(1, 0, n, n - 1, n) for n in LENGTHS)],
             ['6', '', '', f'{counted(1, 0, PAIRS + 1, PAIRS + 1, PAIRS + 1)} (4,097 pairs)'],
             ['7', *(counted(1, 0, n, n, n - 1) for n in LENGTHS)]]
@@ -162,7 +165,7 @@ def design_code_table(program):
     """What a row of each design runs of the code: of a long one with pairs left over from the last four, and of a short one."""
     names = [OURS, *MASKED[:1]]
     body = []
-    for design, setting in {1: 0, 2: 0, 3: 2, 4: 6}.items():
+    for design, setting in {1: 0, 2: 0, 3: 2, 4: 6, 5: 6}.items():
         calls = [(design, setting, pairs, pairs, pairs) for pairs in (3, PAIRS - 1)]
         body.append([str(design), *(number(run_bytes(program, name, calls)) for name in names)])
     return ['design', *(COLUMNS[name] for name in names)], body

@@ -2,7 +2,8 @@
  * Scores rows with the library and with the rows written by hand. IMPLEMENTATIONS, which run.py gives, is the list of them.
  *
  *   rows check   compares all implementations on seeded rows, on boundary numbers and on refusals, and prints how many calls and
- *                pairs it compared, and how many of 4,096 pairs of small numbers hold a 0
+ *                pairs it compared, and how many of 4,096 pairs of small numbers hold a 0; `rows check 4` leaves out the designs
+ *                after design 4
  *   rows time    reads lines "design setting pairs", and for each prints what a call of each implementation takes, in nanoseconds
  *   rows         reads lines "implementation data design setting weights frame places" (the last three are lengths), and for each
  *                makes one call and has callgrind write the instructions of that call under the line as its name; the row of a
@@ -42,6 +43,7 @@ static const struct {
     {"highvane_score_row_nearest", highvane_score_row_nearest},
     {"highvane_score_row_staged", highvane_score_row_staged},
     {"highvane_score_row_truncated", highvane_score_row_truncated},
+    {"highvane_score_row_twice_truncated", highvane_score_row_twice_truncated},
 };
 
 enum { COUNT = sizeof implementations / sizeof *implementations, PAIRS = HIGHVANE_PAIRS_MAX, ROUNDS = 301 };
@@ -50,6 +52,7 @@ enum { COUNT = sizeof implementations / sizeof *implementations, PAIRS = HIGHVAN
 static int16_t weights[PAIRS + 1], frame[PAIRS + 1];
 static int64_t residues[COUNT][PAIRS + 1];
 static unsigned long calls, pairs_compared;
+static uint32_t designs = HIGHVANE_TWICE_TRUNCATED;
 
 static void fill(const char *data) {
     if (seeded_row(data, weights, frame, PAIRS + 1)) return;
@@ -77,11 +80,13 @@ static void compare(uint32_t design, uint32_t setting, size_t weights_len, size_
     pairs_compared += reports[0].refusal ? 0 : weights_len;
 }
 
-/* Every design with every setting that it takes, and with one setting more at each end. */
+/* Every design with every setting that it takes, and with one setting more at each end; and two numbers that are no designs. */
 static void compare_settings(size_t pairs) {
-    for (uint32_t design = 0; design <= 5; design++)
-        for (uint32_t setting = 0; setting <= 17; setting++)
+    for (uint32_t setting = 0; setting <= 17; setting++) {
+        for (uint32_t design = 0; design <= designs; design++)
             compare(design, setting, pairs, pairs, pairs);
+        compare(HIGHVANE_TWICE_TRUNCATED + 1, setting, pairs, pairs, pairs);
+    }
 }
 
 static void compare_boundaries(void) {
@@ -116,7 +121,7 @@ static void check(void) {
             compare_settings(lengths[i]);
         }
     compare_boundaries();
-    for (uint32_t design = 1; design <= 4; design++)
+    for (uint32_t design = 1; design <= designs; design++)
         for (size_t w = PAIRS - 1; w <= PAIRS + 1; w++)
             for (size_t f = PAIRS - 1; f <= PAIRS + 1; f++)
                 for (size_t p = PAIRS - 1; p <= PAIRS + 1; p++)
@@ -197,7 +202,8 @@ static void take_times(const char *line) {
 int main(int argc, char **argv) {
     char line[256];
     void (*answer)(const char *line) = argc == 2 && !strcmp(argv[1], "time") ? take_times : measure;
-    if (argc == 2 && !strcmp(argv[1], "check")) {
+    if ((argc == 2 || argc == 3) && !strcmp(argv[1], "check")) {
+        if (argc == 3) designs = (uint32_t)atoi(argv[2]);
         check();
         return 0;
     }

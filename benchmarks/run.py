@@ -28,7 +28,7 @@ def titled(tables):
 
 
 def operation_tables(program):
-    settings = {1: 0, 2: 0, 3: 2, 4: 6}
+    settings = {1: 0, 2: 0, 3: 2, 4: 6, 5: 6}
     widths = 8, 12, 16, 32
     products = [(sign, design, width) for sign in ('unsigned', 'signed') for design in settings for width in widths]
     others = {'single normal': 'single_product, accepted', 'single zero': 'single_product, a zero operand',
@@ -69,7 +69,8 @@ def print_tables(rows, folder, agreed):
     long, short = time_tables(folder / 'rows')
     print('### Scoring a row: nanoseconds a pair, rows of 4,096 uniform pairs, and nanoseconds a call for short rows\n')
     print('`best C`: the fastest of the C rows that shift and add, at gcc -O3 and -Os for baseline x86-64; `native`: at gcc -O3 with')
-    print('-march=native; `patterns`: design 1 by binary32 patterns in C at gcc -O3; `branch`: the fastest C with a branch on signs.\n')
+    print('-march=native; `patterns`: designs 1 and 5 by binary32 patterns in C at gcc -O3; `branch`: the fastest C with a branch on')
+    print('signs.\n')
     table(*long)
     table(*short)
     print('### Scoring a row: instructions a pair, rows of 4,096\n')

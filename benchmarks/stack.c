@@ -77,15 +77,19 @@ int main(void) {
         {1, 2, 0, 0x00, 0x80, 0xFF, 0x7F},
         {1, 3, 16, 0x00, 0x80, 0xFF, 0x7F},
         {1, 4, 15, 0x00, 0x80, 0xFF, 0x7F},
+        {1, 5, 15, 0x00, 0x83, 0x00, 0x7D},                  /* -32,000 by 32,000, of which something is left to a second stage */
         {2, 0xFF, 0xFF, 0x7F, 0xFF, 0x00, 0x00, 0x80, 0x3F}, /* the lowest binary32 times 1: ten digits */
         {2, 0x00, 0x00, 0x80, 0x7F, 0x00, 0x00, 0x80, 0x3F}, /* infinite: refused */
         {3, 0xFF, 0xFF},
         {7},
     };
-    static const size_t lengths[] = {7, 7, 7, 7, 9, 9, 3, 1};
+    static const size_t lengths[] = {7, 7, 7, 7, 7, 9, 9, 3, 1};
     static uint8_t too_long[HIGHVANE_INPUT_MAX + 1];
     seeded_row("ones", weights, frame, 64);
-    for (uint64_t design = 0; design <= 5; design++) {
+    /* of these pairs something is left to the second stage of design 5, on either side of its carry */
+    weights[1] = frame[1] = 5;
+    weights[2] = frame[2] = 13;
+    for (uint64_t design = 0; design <= 6; design++) {
         uint64_t setting = setting_of(design, 16);
         TRY(highvane_score_row, (uint64_t)&report, design, setting, (uint64_t)weights, 64, (uint64_t)frame, 64,
             (uint64_t)residues, 64);
@@ -99,11 +103,14 @@ int main(void) {
     ROW_BY_ITSELF(highvane_score_row_nearest, HIGHVANE_NEAREST_POWER);
     ROW_BY_ITSELF(highvane_score_row_staged, HIGHVANE_STAGED);
     ROW_BY_ITSELF(highvane_score_row_truncated, HIGHVANE_TRUNCATED);
-    for (uint64_t design = 0; design <= 5; design++)
+    ROW_BY_ITSELF(highvane_score_row_twice_truncated, HIGHVANE_TWICE_TRUNCATED);
+    for (uint64_t design = 0; design <= 6; design++)
         TRY(highvane_product_unsigned, design, 32, setting_of(design, 32), UINT32_MAX, UINT32_MAX);
+    TRY(highvane_product_unsigned, HIGHVANE_TWICE_TRUNCATED, 32, 31, 3000000000, 3000000000);
     print("highvane_product_unsigned");
-    for (uint64_t design = 0; design <= 5; design++)
+    for (uint64_t design = 0; design <= 6; design++)
         TRY(highvane_product_signed, design, 32, setting_of(design, 32), (uint64_t)-INT32_MAX, INT32_MAX);
+    TRY(highvane_product_signed, HIGHVANE_TWICE_TRUNCATED, 32, 31, (uint64_t)-2000000000, 2000000000);
     print("highvane_product_signed");
     TRY(highvane_row_refusal, (uint64_t)weights, 64, 8, 3);
     TRY(highvane_row_refusal, (uint64_t)weights, 64, 0, 3);

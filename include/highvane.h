@@ -1,5 +1,5 @@
 /*
- * Highvane: the arithmetic of a chip that multiplies by adding rough logarithms, in four designs. Every operation takes any
+ * Highvane: the arithmetic of a chip that multiplies by adding rough logarithms, in five designs. Every operation takes any
  * numbers and gives its result, or the number of the first refusal that applies. The source of the archive is proved to do so,
  * for all inputs.
  *
@@ -30,15 +30,16 @@ extern "C" {
 
 /* The version. Code that works with one version works, compiled again, with every later one of the same first number. */
 #define HIGHVANE_VERSION_MAJOR 2
-#define HIGHVANE_VERSION_MINOR 2
+#define HIGHVANE_VERSION_MINOR 3
 #define HIGHVANE_VERSION_PATCH 0
 
 /* The designs, each with the settings that it takes at width w; rows have width 16. */
 enum highvane_design {
-    HIGHVANE_MITCHELL = 1,      /* setting 0 */
-    HIGHVANE_NEAREST_POWER = 2, /* setting 0 */
-    HIGHVANE_STAGED = 3,        /* setting 1 to w: the stages */
-    HIGHVANE_TRUNCATED = 4      /* setting 1 to w - 1: the bits kept of each fraction */
+    HIGHVANE_MITCHELL = 1,       /* setting 0 */
+    HIGHVANE_NEAREST_POWER = 2,  /* setting 0 */
+    HIGHVANE_STAGED = 3,         /* setting 1 to w: the stages */
+    HIGHVANE_TRUNCATED = 4,      /* setting 1 to w - 1: the bits kept of each fraction */
+    HIGHVANE_TWICE_TRUNCATED = 5 /* setting 1 to w - 1: the bits that its first stage keeps; the second keeps two */
 };
 
 /* The refusals; highvane_refusal_text says what each means. 17 to 19 stand only in the text of highvane_transcript. */
@@ -75,7 +76,7 @@ static inline
 const char *highvane_refusal_text(uint32_t refusal) {
     switch (refusal) {
     case HIGHVANE_ACCEPTED: return "accepted";
-    case HIGHVANE_UNKNOWN_DESIGN: return "the design is not 1 to 4";
+    case HIGHVANE_UNKNOWN_DESIGN: return "the design is not 1 to 5";
     case HIGHVANE_UNKNOWN_WIDTH: return "the width is not 8, 12, 16 or 32";
     case HIGHVANE_SETTING_OUT_OF_RANGE: return "the setting is not one that the design takes at this width";
     case HIGHVANE_FIRST_OPERAND_OUTSIDE_WIDTH: return "the first operand is outside the width";
@@ -133,10 +134,12 @@ highvane_signed highvane_product_signed(uint32_t design, uint32_t width, uint32_
  * residues[i] becomes the true product of pair i less its design product, for each pair of the row; later places keep what they
  * held.
  *
- * Every sum is below 2^43 in size, and the error is bounded by T (not by the size of true_sum, where products cancel):
+ * Every sum is below 2^43 in size, and the error by designs 1 to 4 is bounded by T (not by the size of true_sum, where products
+ * cancel):
  *   designs 1, 2   9 * |error| <= T; for a single pair without a 0, equal exactly when both sizes are 3 * 2^j
  *   design 3       4^s * |error| <= T, where s is the setting
  *   design 4       9 * 2^t * |error| <= (2^t + 18) * T + 9 * 2^t * n, where t is the setting
+ * No such bound is promised for design 5.
  *
  * Refusals: 1, 3, 5, 6, 7.
  */
@@ -156,6 +159,9 @@ highvane_report highvane_score_row_staged(uint32_t setting, const int16_t *weigh
                                           size_t frame_len, int64_t *residues, size_t residues_len);
 highvane_report highvane_score_row_truncated(uint32_t setting, const int16_t *weights, size_t weights_len, const int16_t *frame,
                                              size_t frame_len, int64_t *residues, size_t residues_len);
+highvane_report highvane_score_row_twice_truncated(uint32_t setting, const int16_t *weights, size_t weights_len,
+                                                   const int16_t *frame, size_t frame_len, int64_t *residues,
+                                                   size_t residues_len);
 
 /*
  * Judges a row of a weight store, in which rows of `columns` weights lie one after another, the first numbered 0. Gives 0 where

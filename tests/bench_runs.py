@@ -43,7 +43,7 @@ WHOLE = PRODUCT + SINGLE + TABLE
 # record: its width is 16, and a field of 16 bits holds no other number.
 EACH_REFUSAL = '''
 product 0 0 3 3                 # 1
-product 5 0 3 3                 # 1
+product 6 0 3 3                 # 1
 product 255 255 3 3             # 1, before 3
 product 1 1 3 3                 # 3
 product 2 255 3 3               # 3
@@ -53,6 +53,9 @@ product 3 17 3 3                # 3
 product 4 0 3 3                 # 3
 product 4 15 -32768 -32768
 product 4 16 3 3                # 3
+product 5 0 3 3                 # 3
+product 5 15 -32768 32767
+product 5 16 3 3                # 3
 product 1 0 -32768 32767
 product 2 0 -1 0
 single 0x7F800000 0x00000001    # 8, before 9
@@ -77,7 +80,8 @@ def random_input(rng, length):
         kind = rng.choice((1, 1, 2, 2, 3))
         body = bytearray(rng.randbytes(KINDS[kind].length))
         if kind == 1:
-            body[0], body[1] = rng.choice(((1, 0), (2, 0), (3, rng.randint(0, 17)), (4, rng.randint(0, 16)), (rng.randint(0, 6), 0)))
+            kept = rng.randint(0, 16)
+            body[0], body[1] = rng.choice(((1, 0), (2, 0), (3, rng.randint(0, 17)), (4, kept), (5, kept), (rng.randint(0, 7), 0)))
         data += bytes([kind]) + body
     return bytes(data[:length])
 

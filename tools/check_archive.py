@@ -6,12 +6,12 @@ the bench does and the chip does otherwise, multiplies: it forms the true produc
 the product of what powers leave; the compiler makes two loops of each, for several pairs and for the rest, and short rows have a third.
 The writer of decimals divides by ten, which the compiler does by a multiply.
 
-No inner loop of a row chooses a design or works out what a setting fixes: none compares with 2, 3 or 4, jumps by a table, calls, or
-shifts by a register, and one that takes several pairs at a time has no branch but its own end. The stages of a few pairs, one pair after
+No inner loop of a row chooses a design or works out what a setting fixes: none compares with 2, 3, 4 or 5, jumps by a table, calls,
+or shifts by a register, and one that takes several pairs at a time has no branch but its own end. The stages of a few pairs, one pair after
 the other, are a loop of the kernel's, which shifts by what the operands have.
 
 The archive must need nothing from outside (no undefined symbol) and hold no data that a program could write, so that it can go into ROM
-as it is. Constants are counted: the byte table's 512 bytes, the words of a transcript, the four places that a row by any design jumps to,
+as it is. Constants are counted: the byte table's 512 bytes, the words of a transcript, the five places that a row by any design jumps to,
 and the vectors of equal numbers that rows read. Of the stack below its pointer a function may use the red zone alone, as the header says.
 
 Usage: python3 tools/check_archive.py ARCHIVE     (tools/archive writes target/libhighvane.a)
@@ -29,18 +29,19 @@ ALLOWED = {
     'capi::highvane_score_row_nearest': 12,
     'capi::highvane_score_row_staged': 11,
     'highvane_score_row_truncated': 3,
+    'highvane_score_row_twice_truncated': 3,
     'transcripts::writers::put_number': 1,
 }
 # the rows, in which loops are looked at; what makes a loop one of vectors, and the kernel's
 ROW = re.compile(r'highvane_score_row(?:_\w+)?$')
 VECTOR = re.compile(r'p(?:add|sub|mull|mulh|muludq|madd)\w*')
 KERNEL = 'bsr'
-CHOICE = re.compile(r'\$0x[234],')
+CHOICE = re.compile(r'\$0x[2345],')
 BY_REGISTER = re.compile(r'%cl,')
 # sections that a program writes, or that run before it; and constants, with how many bytes they may have
 DATA = re.compile(r'\.(data|bss|tdata|tbss|init_array|fini_array)\b')
 CONSTANTS = re.compile(r'\.rodata\b')
-CONSTANT_BYTES = 512 + 24 + 16 + 196
+CONSTANT_BYTES = 512 + 24 + 20 + 196
 # an operand below the stack pointer, and how many bytes below it anything may lie
 BELOW_STACK = re.compile(r'-0x([0-9a-f]+)\(%rsp')
 RED_ZONE = 128

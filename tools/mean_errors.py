@@ -17,7 +17,7 @@ import sys
 # nothing is to appear beside the tools
 sys.dont_write_bytecode = True
 
-from reference_meaning.designs import MITCHELL, NEAREST, STAGED, TRUNCATED, signed_product
+from reference_meaning.designs import MITCHELL, NEAREST, STAGED, TRUNCATED, TWICE_TRUNCATED, signed_product
 from reference_meaning.rows import without_zero
 from streams import Failure, run, write
 
@@ -30,6 +30,8 @@ SETTINGS = {
     '3, s = 4': (STAGED, 4),
     '4, t = 6': (TRUNCATED, 6),
     '4, t = 15': (TRUNCATED, 15),
+    '5, t = 6': (TWICE_TRUNCATED, 6),
+    '5, t = 15': (TWICE_TRUNCATED, 15),
 }
 
 

@@ -42,12 +42,14 @@ static void texts(void) {
 
 void check_names(void) {
     NAMED(HIGHVANE_UNKNOWN_DESIGN, highvane_product_unsigned(HIGHVANE_MITCHELL - 1, 8, 0, 1, 1).refusal);
-    NAMED(HIGHVANE_UNKNOWN_DESIGN, highvane_product_unsigned(HIGHVANE_TRUNCATED + 1, 8, 0, 1, 1).refusal);
+    NAMED(HIGHVANE_UNKNOWN_DESIGN, highvane_product_unsigned(HIGHVANE_TWICE_TRUNCATED + 1, 8, 0, 1, 1).refusal);
     NAMED(HIGHVANE_UNKNOWN_WIDTH, highvane_product_signed(HIGHVANE_MITCHELL, 7, 0, 1, 1).refusal);
     NAMED(HIGHVANE_SETTING_OUT_OF_RANGE, highvane_product_signed(HIGHVANE_NEAREST_POWER, 8, 1, 1, 1).refusal);
     NAMED(HIGHVANE_SETTING_OUT_OF_RANGE, highvane_product_signed(HIGHVANE_STAGED, 8, 9, 1, 1).refusal);
     NAMED(HIGHVANE_ACCEPTED, highvane_product_signed(HIGHVANE_STAGED, 8, 8, 1, 1).refusal);
     NAMED(HIGHVANE_SETTING_OUT_OF_RANGE, highvane_product_signed(HIGHVANE_TRUNCATED, 8, 8, 1, 1).refusal);
+    NAMED(HIGHVANE_SETTING_OUT_OF_RANGE, highvane_product_signed(HIGHVANE_TWICE_TRUNCATED, 8, 8, 1, 1).refusal);
+    NAMED(HIGHVANE_ACCEPTED, highvane_product_signed(HIGHVANE_TWICE_TRUNCATED, 8, 7, 1, 1).refusal);
     NAMED(HIGHVANE_FIRST_OPERAND_OUTSIDE_WIDTH, highvane_product_unsigned(HIGHVANE_MITCHELL, 8, 0, 256, 256).refusal);
     NAMED(HIGHVANE_SECOND_OPERAND_OUTSIDE_WIDTH, highvane_product_unsigned(HIGHVANE_MITCHELL, 8, 0, 255, 256).refusal);
     NAMED(HIGHVANE_LENGTHS_DIFFER, score(2, 3, 3));

@@ -46,7 +46,8 @@ static int same_report(const highvane_report *a, const highvane_report *b) {
 static void by_itself(uint32_t design, uint32_t setting, size_t weights_len, size_t frame_len, size_t places, enum place place,
                       const highvane_report *due) {
     static highvane_report (*const rows[])(uint32_t, const int16_t *, size_t, const int16_t *, size_t, int64_t *, size_t) = {
-        highvane_score_row_mitchell, highvane_score_row_nearest, highvane_score_row_staged, highvane_score_row_truncated};
+        highvane_score_row_mitchell, highvane_score_row_nearest, highvane_score_row_staged, highvane_score_row_truncated,
+        highvane_score_row_twice_truncated};
     if (design < 1 || design > COUNT(rows)) return;
     static int64_t residues_due[MOST];
     memcpy(residues_due, residues, sizeof residues);

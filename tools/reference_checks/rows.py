@@ -43,7 +43,8 @@ def truncated_bound(setting, size, report):
 
 
 # The bound on the error by design, from the setting, the error's size and the report: two
-# sides, of which the first does not pass the second.
+# sides, of which the first does not pass the second.  Design 5 has none: its error is exact,
+# as that of every design, and no more is said of it.
 BOUNDS = {
     MITCHELL: tie_bound,
     NEAREST: tie_bound,

@@ -1,4 +1,4 @@
-"""The designs on sizes, the settings that they take, and the widths (docs/SCOPE.md, "The four designs" and "Setting").
+"""The designs on sizes, the settings that they take, and the widths (docs/SCOPE.md, "The designs" and "Setting").
 
 A further design is a function of two nonzero sizes and a setting, and a line of DESIGNS.
 """
@@ -51,29 +51,59 @@ def staged(size_a, size_b, stages):
     return total
 
 
-def truncated(size_a, size_b, t):
-    """Design 4 (source 003, first stage) with t kept bits."""
+def kept_sum(size_a, size_b, t):
+    """S, the sum of both fractions, cut to t bits, and of a carry."""
     k, a = split(size_a)
     m, b = split(size_b)
     fraction_a = (a * 2**t) // 2**k
     fraction_b = (b * 2**t) // 2**m
     # The carry does not depend on whether the cut took anything off.
-    total = fraction_a + fraction_b + 1
+    return fraction_a + fraction_b + 1
+
+
+def truncated(size_a, size_b, t):
+    """Design 4 (source 003, first stage) with t kept bits."""
+    k, _ = split(size_a)
+    m, _ = split(size_b)
+    total = kept_sum(size_a, size_b, t)
     if total < 2**t:
         return (2 ** (k + m) * (2**t + total)) // 2**t
     return (2 ** (k + m + 1) * total) // 2**t
 
 
+def left_over(size_a, size_b, t):
+    """What the first stage of design 5 leaves of both sizes; it may be 0."""
+    k, a = split(size_a)
+    m, b = split(size_b)
+    if kept_sum(size_a, size_b, t) < 2**t:
+        return a, b
+    return 2**k - a - 1, 2**m - b - 1
+
+
+# So many bits the second stage of design 5 keeps, whatever the first one does.
+SECOND_KEPT_BITS = 2
+
+
+def twice_truncated(size_a, size_b, t):
+    """Design 5 (source 003, both stages): design 4 with t kept bits, and with two on what that leaves."""
+    first = truncated(size_a, size_b, t)
+    left_a, left_b = left_over(size_a, size_b, t)
+    if left_a == 0 or left_b == 0:
+        return first
+    return first + truncated(left_a, left_b, SECOND_KEPT_BITS)
+
+
 # The product of two nonzero sizes with a setting, and the settings that are accepted at a width.
 Design = collections.namedtuple("Design", "product settings")
 
-MITCHELL, NEAREST, STAGED, TRUNCATED = 1, 2, 3, 4
+MITCHELL, NEAREST, STAGED, TRUNCATED, TWICE_TRUNCATED = 1, 2, 3, 4, 5
 
 DESIGNS = {
     MITCHELL: Design(mitchell, lambda width: range(0, 1)),
     NEAREST: Design(nearest, lambda width: range(0, 1)),
     STAGED: Design(staged, lambda width: range(1, width + 1)),
     TRUNCATED: Design(truncated, lambda width: range(1, width)),
+    TWICE_TRUNCATED: Design(twice_truncated, lambda width: range(1, width)),
 }
 
 WIDTHS = (8, 12, 16, 32)

@@ -26,6 +26,9 @@ PRODUCTS = (
     (ProductInput(UNSIGNED, 4, 8, 4, 255, 255), 63488, 1537),
     (ProductInput(UNSIGNED, 4, 8, 1, 1, 1), 1, 0),
     (ProductInput(UNSIGNED, 4, 12, 11, 3, 3), 8, 1),
+    (ProductInput(UNSIGNED, 5, 8, 4, 3, 3), 8, 1),
+    (ProductInput(UNSIGNED, 5, 8, 4, 5, 5), 26, -1),
+    (ProductInput(UNSIGNED, 5, 8, 4, 7, 7), 50, -1),
 )
 
 # The sentences below that table on settings and operands: the input and its refusal.
@@ -36,6 +39,14 @@ JUDGED_PRODUCTS = (
     (ProductInput(SIGNED, 3, 8, 8, 7, 7), 0),
     (ProductInput(SIGNED, 3, 8, 0, 7, 7), 3),
     (ProductInput(SIGNED, 3, 8, 9, 7, 7), 3),
+    (ProductInput(UNSIGNED, 5, 8, 7, 7, 7), 0),
+    (ProductInput(UNSIGNED, 5, 8, 0, 7, 7), 3),
+    (ProductInput(UNSIGNED, 5, 8, 8, 7, 7), 3),
+    (ProductInput(UNSIGNED, 6, 8, 4, 7, 7), 1),
+    (ProductInput(SIGNED, 5, 8, 7, 7, 7), 0),
+    (ProductInput(SIGNED, 5, 8, 0, 7, 7), 3),
+    (ProductInput(SIGNED, 5, 8, 8, 7, 7), 3),
+    (ProductInput(SIGNED, 6, 8, 4, 7, 7), 1),
     (ProductInput(SIGNED, 1, 8, 0, -128, 1), 0),
     (ProductInput(SIGNED, 1, 8, 0, 1, -128), 0),
     (ProductInput(SIGNED, 1, 8, 0, 128, 5), 4),
@@ -54,6 +65,8 @@ JUDGED_PRODUCTS = (
     (ProductInput(SIGNED, 3, 12, 13, 7, 7), 3),
     (ProductInput(UNSIGNED, 4, 12, 12, 7, 7), 3),
     (ProductInput(SIGNED, 4, 12, 12, 7, 7), 3),
+    (ProductInput(UNSIGNED, 5, 12, 12, 7, 7), 3),
+    (ProductInput(SIGNED, 5, 12, 12, 7, 7), 3),
     (ProductInput(UNSIGNED, 1, 12, 0, 4096, 5), 4),
     (ProductInput(UNSIGNED, 1, 12, 0, 5, 4096), 20),
     (ProductInput(SIGNED, 1, 12, 0, 2047, -2048), 0),

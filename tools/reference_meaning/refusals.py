@@ -28,7 +28,7 @@ SECOND_OPERAND_OUTSIDE_WIDTH = 20
 
 TEXTS = {
     ACCEPTED: "accepted",
-    UNKNOWN_DESIGN: "the design is not 1 to 4",
+    UNKNOWN_DESIGN: "the design is not 1 to 5",
     UNKNOWN_WIDTH: "the width is not 8, 12, 16 or 32",
     SETTING_OUT_OF_RANGE: "the setting is not one that the design takes at this width",
     FIRST_OPERAND_OUTSIDE_WIDTH: "the first operand is outside the width",

@@ -3,7 +3,7 @@
 import itertools
 
 from reference_meaning import figures
-from reference_meaning.designs import DESIGNS, MITCHELL, NEAREST, STAGED, TRUNCATED, settings_accepted
+from reference_meaning.designs import DESIGNS, MITCHELL, NEAREST, STAGED, TRUNCATED, TWICE_TRUNCATED, settings_accepted
 from reference_meaning.products import SIGNED, fits, highest_operand, lowest_operand
 from reference_meaning.rows import MAX_PAIRS, ROW_WIDTH, RowInput, row_outcome
 
@@ -171,6 +171,7 @@ LONG_ROWS = (
     (NEAREST, 0, MAX_PAIRS, 1),
     (STAGED, 2, MAX_PAIRS, 5),
     (TRUNCATED, 6, MAX_PAIRS, 0),
+    (TWICE_TRUNCATED, 6, MAX_PAIRS, 1),
 )
 
 

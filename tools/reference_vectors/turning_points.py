@@ -2,7 +2,7 @@
 
 import itertools
 
-from reference_meaning.designs import MITCHELL, NEAREST, STAGED, TRUNCATED, split
+from reference_meaning.designs import MITCHELL, NEAREST, STAGED, TRUNCATED, TWICE_TRUNCATED, split
 from reference_meaning.products import UNSIGNED, fits, highest_operand
 
 
@@ -45,12 +45,27 @@ def cut_pairs(kind, width, t):
     ]
 
 
+def twice_cut_pairs(kind, width, t):
+    """The pairs of design 4, of which each case leaves nothing of a size once (design 5); and
+    sizes of which so much is left that the second stage comes just to its second case, or
+    just not: what the first case leaves for even settings, and the second for odd ones."""
+    k = split(highest_operand(kind, width))[0]
+    first = t % 3
+    parts = [(4 + first, 4 + second) for second in (2 - first, 3 - first)]
+    if t % 2 == 0:
+        left = [(2**k + a, 2**k + b) for a, b in parts]
+    else:
+        left = [(2 ** (k + 1) - 1 - a, 2 ** (k + 1) - 1 - b) for a, b in parts]
+    return cut_pairs(kind, width, t) + left
+
+
 # Pairs of sizes by design, from the kind of product, the width and the setting.
 TURNING_SIZES = {
     MITCHELL: tie_pairs,
     NEAREST: tie_pairs,
     STAGED: stage_pairs,
     TRUNCATED: cut_pairs,
+    TWICE_TRUNCATED: twice_cut_pairs,
 }
 
 

@@ -9,7 +9,7 @@ from reference_meaning.designs import DESIGNS, WIDTHS, settings_accepted
 from .choice import MAX_U32
 
 # The last but one of the designs and of the widths would be accepted if it were cut to a byte.
-UNKNOWN_DESIGNS = [n for n in (0, 5, 6, 7, 255, 257, MAX_U32) if n not in DESIGNS]
+UNKNOWN_DESIGNS = [n for n in (0, 6, 7, 8, 255, 257, MAX_U32) if n not in DESIGNS]
 UNKNOWN_WIDTHS = [
     n for n in (0, 1, 7, 9, 10, 11, 13, 15, 17, 31, 33, 64, 264, MAX_U32) if n not in WIDTHS
 ]

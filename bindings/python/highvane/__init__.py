@@ -1,4 +1,4 @@
-"""The arithmetic of a chip that multiplies by adding rough logarithms, in four published designs.
+"""The arithmetic of a chip that multiplies by adding rough logarithms, in five published designs.
 
 The operations are Highvane's, proved in Rattle and compiled into a shared object, which this package calls through ctypes. Each takes any
 input. It gives its result, or raises Refused with the first refusal that applies, and then has changed nothing that was lent to it.
@@ -8,7 +8,8 @@ input. It gives its result, or raises Refused with the first refusal that applie
     row_of, row_refusal                       a row, as a part of a weight store
     score_row                                 the score of a row, its exact error, and the residue of each pair
     score_row_mitchell, score_row_nearest,    the same by one design
-    score_row_staged, score_row_truncated
+    score_row_staged, score_row_truncated,
+    score_row_twice_truncated
     scale                                     a score and T as floats, divided by a power of two
     single_product, single_product_of_bits    Mitchell's product of two binary32 numbers
     transcript                                what the bench prints for a run of records
@@ -33,16 +34,18 @@ from .designs import Design
 from .products import signed_product, table_product, unsigned_product
 from .records import INPUT_MAX, TRANSCRIPT_MAX, transcript
 from .refusals import Refusal, Refused
-from .rows import PAIRS_MAX, Report, score_row, score_row_mitchell, score_row_nearest, score_row_staged, score_row_truncated
+from .rows import (PAIRS_MAX, Report, score_row, score_row_mitchell, score_row_nearest, score_row_staged, score_row_truncated,
+                   score_row_twice_truncated)
 from .scores import SHIFT_MAX, Scaled, scale
 from .singles import single_product, single_product_of_bits
 from .stores import row_of, row_refusal
 
 # that of include/highvane.h
-__version__ = '2.2.0'
+__version__ = '2.3.0'
 
 __all__ = [
     'Design', 'INPUT_MAX', 'PAIRS_MAX', 'Refusal', 'Refused', 'Report', 'SHIFT_MAX', 'Scaled', 'TRANSCRIPT_MAX', 'row_of', 'row_refusal',
-    'scale', 'score_row', 'score_row_mitchell', 'score_row_nearest', 'score_row_staged', 'score_row_truncated', 'signed_product',
-    'single_product', 'single_product_of_bits', 'table_product', 'transcript', 'unsigned_product',
+    'scale', 'score_row', 'score_row_mitchell', 'score_row_nearest', 'score_row_staged', 'score_row_truncated',
+    'score_row_twice_truncated', 'signed_product', 'single_product', 'single_product_of_bits', 'table_product', 'transcript',
+    'unsigned_product',
 ]

@@ -65,6 +65,7 @@ highvane_score_row_mitchell = _function('highvane_score_row_mitchell', Report, *
 highvane_score_row_nearest = _function('highvane_score_row_nearest', Report, *_BY_ITSELF)
 highvane_score_row_staged = _function('highvane_score_row_staged', Report, *_BY_ITSELF)
 highvane_score_row_truncated = _function('highvane_score_row_truncated', Report, *_BY_ITSELF)
+highvane_score_row_twice_truncated = _function('highvane_score_row_twice_truncated', Report, *_BY_ITSELF)
 highvane_row_refusal = _function('highvane_row_refusal', c_uint32, c_void_p, c_size_t, c_size_t, c_size_t)
 highvane_scale = _function('highvane_scale', Scaled, c_int64, c_uint64, c_uint32)
 highvane_single_product = _function('highvane_single_product', Single, c_uint32, c_uint32)

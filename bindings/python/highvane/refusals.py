@@ -18,7 +18,7 @@ class Refusal(enum.IntEnum):
         return refusal
 
     # names, numbers and texts are those of include/highvane.h
-    UNKNOWN_DESIGN = 1, 'the design is not 1 to 4'
+    UNKNOWN_DESIGN = 1, 'the design is not 1 to 5'
     UNKNOWN_WIDTH = 2, 'the width is not 8, 12, 16 or 32'
     SETTING_OUT_OF_RANGE = 3, 'the setting is not one that the design takes at this width'
     FIRST_OPERAND_OUTSIDE_WIDTH = 4, 'the first operand is outside the width'

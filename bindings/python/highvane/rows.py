@@ -77,6 +77,16 @@ def score_row_truncated(setting, weights, frame, residues):
     return _scored(raw.highvane_score_row_truncated, [u32('setting', setting)], weights, frame, residues)
 
 
+def score_row_twice_truncated(setting, weights, frame, residues):
+    """score_row by design 5; the setting is the number of bits that its first stage keeps, 1 to 15. It refuses, in this order: 3, 5, 6, 7.
+
+    >>> from array import array
+    >>> score_row_twice_truncated(6, array('h', [3, -5, 0]), array('h', [3, 6, 7]), array('q', [0, 0, 0])).score
+    -22
+    """
+    return _scored(raw.highvane_score_row_twice_truncated, [u32('setting', setting)], weights, frame, residues)
+
+
 def _scored(row, numbers, weights, frame, residues):
     with lent('weights', weights, I16) as w, lent('frame', frame, I16) as f, lent('residues', residues, I64, is_written=True) as r:
         r.refuse_overlap(w)

@@ -186,8 +186,9 @@ class Lending(unittest.TestCase):
                   (ctypes.c_int64 * 4)()]
         calls = [(highvane.unsigned_product, 5), (highvane.signed_product, 5), (highvane.table_product, 2), (highvane.score_row, 5),
                  (highvane.score_row_mitchell, 4), (highvane.score_row_nearest, 4), (highvane.score_row_staged, 4),
-                 (highvane.score_row_truncated, 4), (highvane.row_of, 3), (highvane.row_refusal, 3), (highvane.scale, 3),
-                 (highvane.single_product, 2), (highvane.single_product_of_bits, 2), (highvane.transcript, 1)]
+                 (highvane.score_row_truncated, 4), (highvane.score_row_twice_truncated, 4), (highvane.row_of, 3),
+                 (highvane.row_refusal, 3), (highvane.scale, 3), (highvane.single_product, 2), (highvane.single_product_of_bits, 2),
+                 (highvane.transcript, 1)]
         chosen = random.Random(1)
         for _ in range(20000):
             call, count = chosen.choice(calls)

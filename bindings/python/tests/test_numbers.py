@@ -31,6 +31,7 @@ FUNCTIONS = [
     (by_itself(highvane.score_row_nearest), {'setting': U32}, (0,)),
     (by_itself(highvane.score_row_staged), {'setting': U32}, (16,)),
     (by_itself(highvane.score_row_truncated), {'setting': U32}, (15,)),
+    (by_itself(highvane.score_row_twice_truncated), {'setting': U32}, (15,)),
     (found(highvane.row_of), {'columns': U64, 'row': U64}, (2, 1)),
     (found(highvane.row_refusal), {'columns': U64, 'row': U64}, (2, 1)),
     (highvane.scale, {'score': I64, 'magnitude_sum': U64, 'shift': U32}, (3, 3, 1)),

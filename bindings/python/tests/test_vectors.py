@@ -33,7 +33,8 @@ def pattern(kind, number):
 
 # A kind of line takes its input off the line's numbers, and gives the numbers that are due after it.
 
-BY_ITSELF = {1: highvane.score_row_mitchell, 2: highvane.score_row_nearest, 3: highvane.score_row_staged, 4: highvane.score_row_truncated}
+BY_ITSELF = {1: highvane.score_row_mitchell, 2: highvane.score_row_nearest, 3: highvane.score_row_staged, 4: highvane.score_row_truncated,
+             5: highvane.score_row_twice_truncated}
 
 
 def product(call, numbers):

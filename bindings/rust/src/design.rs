@@ -31,6 +31,11 @@ pub enum Design {
         /// How many bits of each fraction are kept, 1 to one less than the width.
         kept_bits: u32,
     },
+    /// Design 5: design 4, and what that leaves of both operands by design 4 once more, with two bits.
+    TwiceTruncated {
+        /// How many bits of each fraction the first stage keeps, 1 to one less than the width.
+        kept_bits: u32,
+    },
     /// Numbers that no other variant stands for. Only [`Design::from_numbers`] makes it, so that equal designs compare as equal.
     #[non_exhaustive]
     Unlisted {
@@ -63,11 +68,12 @@ impl Design {
             (2, 0) => Design::NearestPower,
             (3, stages) => Design::Staged { stages },
             (4, kept_bits) => Design::Truncated { kept_bits },
+            (5, kept_bits) => Design::TwiceTruncated { kept_bits },
             (number, setting) => Design::Unlisted { number, setting },
         }
     }
 
-    /// The number of the design, 1 to 4 for those that the library knows.
+    /// The number of the design, 1 to 5 for those that the library knows.
     ///
     /// ```
     /// use highvane::Design;
@@ -81,6 +87,7 @@ impl Design {
             Design::NearestPower => 2,
             Design::Staged { .. } => 3,
             Design::Truncated { .. } => 4,
+            Design::TwiceTruncated { .. } => 5,
             Design::Unlisted { number, .. } => number,
         }
     }
@@ -98,7 +105,7 @@ impl Design {
         match self {
             Design::Mitchell | Design::NearestPower => 0,
             Design::Staged { stages } => stages,
-            Design::Truncated { kept_bits } => kept_bits,
+            Design::Truncated { kept_bits } | Design::TwiceTruncated { kept_bits } => kept_bits,
             Design::Unlisted { setting, .. } => setting,
         }
     }

@@ -1,4 +1,4 @@
-//! The arithmetic of a chip that multiplies by adding rough logarithms, in four published designs, as ordinary Rust.
+//! The arithmetic of a chip that multiplies by adding rough logarithms, in five published designs, as ordinary Rust.
 //!
 //! The operations are Highvane's, proved in Rattle and compiled into the archive `libhighvane.a`; this package calls them. Each takes
 //! any input. It gives its result, or the first [`Refusal`] that applies, and then has changed nothing that was lent to it.
@@ -9,7 +9,8 @@
 //! | [`table_product`] | design 1's product of two bytes, by a table |
 //! | [`row_of`] | a row, as a part of a weight store |
 //! | [`score_row`] | the score of a row, its exact error, and the residue of each pair |
-//! | [`score_row_mitchell`], [`score_row_nearest`], [`score_row_staged`], [`score_row_truncated`] | the same by one design |
+//! | [`score_row_mitchell`], [`score_row_nearest`], [`score_row_staged`] | the same by one design |
+//! | [`score_row_truncated`], [`score_row_twice_truncated`] | the same by one design |
 //! | [`scale`] | a score and T as binary64, divided by a power of two |
 //! | [`single_product`], [`single_product_of_bits`] | Mitchell's product of two binary32 numbers |
 //! | `transcript`, [`transcript_into`] | what the bench prints for a run of records |
@@ -53,7 +54,10 @@ pub use products::{signed_product, table_product, unsigned_product};
 pub use records::transcript;
 pub use records::{INPUT_MAX, TRANSCRIPT_MAX, transcript_into};
 pub use refusal::{NoSuchRefusal, Refusal};
-pub use rows::{PAIRS_MAX, Report, score_row, score_row_mitchell, score_row_nearest, score_row_staged, score_row_truncated};
+pub use rows::{
+    PAIRS_MAX, Report, score_row, score_row_mitchell, score_row_nearest, score_row_staged, score_row_truncated,
+    score_row_twice_truncated,
+};
 pub use scores::{SHIFT_MAX, Scaled, scale};
 pub use singles::{single_product, single_product_of_bits};
 pub use stores::row_of;

@@ -305,6 +305,38 @@ unsafe extern "C" {
         residues_len: usize,
     ) -> ScoredRow;
 
+    /// [`score_row_twice_truncated`](crate::score_row_twice_truncated), by numbers and pointers.
+    ///
+    /// # Safety
+    ///
+    /// As for [`highvane_score_row`].
+    ///
+    /// ```
+    /// let (weights, frame, mut residues) = ([3, -5, 0], [3, 6, 7], [0; 3]);
+    /// // SAFETY: each pointer goes with the length of its own array.
+    /// let answer = unsafe {
+    ///     highvane::raw::highvane_score_row_twice_truncated(
+    ///         6,
+    ///         weights.as_ptr(),
+    ///         3,
+    ///         frame.as_ptr(),
+    ///         3,
+    ///         residues.as_mut_ptr(),
+    ///         3,
+    ///     )
+    /// };
+    /// assert_eq!((answer.report.score, answer.refusal), (-22, 0));
+    /// ```
+    pub fn highvane_score_row_twice_truncated(
+        setting: u32,
+        weights: *const i16,
+        weights_len: usize,
+        frame: *const i16,
+        frame_len: usize,
+        residues: *mut i64,
+        residues_len: usize,
+    ) -> ScoredRow;
+
     /// Whether a store has a row: 0, and then the row is the `columns` weights from `store + row * columns` on, or the refusal that
     /// [`row_of`](crate::row_of) gives.
     ///

@@ -68,7 +68,7 @@ macro_rules! refusals {
 }
 
 refusals! {
-    UnknownDesign = 1, "the design is not 1 to 4";
+    UnknownDesign = 1, "the design is not 1 to 5";
     UnknownWidth = 2, "the width is not 8, 12, 16 or 32";
     SettingOutOfRange = 3, "the setting is not one that the design takes at this width";
     FirstOperandOutsideWidth = 4, "the first operand is outside the width";

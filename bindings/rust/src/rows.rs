@@ -174,3 +174,24 @@ pub fn score_row_staged(setting: u32, weights: &[i16], frame: &[i16], residues: 
 pub fn score_row_truncated(setting: u32, weights: &[i16], frame: &[i16], residues: &mut [i64]) -> Result<Report, Refusal> {
     by_itself(raw::highvane_score_row_truncated, setting, weights, frame, residues)
 }
+
+/// [`score_row`] by design 5; the setting is the number of bits that its first stage keeps, 1 to 15.
+///
+/// # Errors
+///
+/// The refusals 3, 5, 6 and 7, in this order.
+///
+/// ```
+/// use highvane::{Refusal, score_row_twice_truncated};
+///
+/// let mut residues = [99; 4];
+/// let report = score_row_twice_truncated(6, &[3, -5, 0], &[3, 6, 7], &mut residues)?;
+/// assert_eq!((report.score, report.error, residues), (-22, 1, [1, 0, 0, 99]));
+///
+/// let refused = score_row_twice_truncated(16, &[3, -5, 0], &[3, 6], &mut residues);
+/// assert_eq!(refused, Err(Refusal::SettingOutOfRange));
+/// # Ok::<(), Refusal>(())
+/// ```
+pub fn score_row_twice_truncated(setting: u32, weights: &[i16], frame: &[i16], residues: &mut [i64]) -> Result<Report, Refusal> {
+    by_itself(raw::highvane_score_row_twice_truncated, setting, weights, frame, residues)
+}

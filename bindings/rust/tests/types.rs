@@ -7,7 +7,7 @@ use highvane::{Design, NoSuchRefusal, Refusal, Width};
 #[test]
 fn designs_and_widths_keep_any_numbers() {
     let edges = [8, 12, 16, 31, 32, 33, 255, 256, 1 << 16, 1 << 31, u32::MAX];
-    let numbers = || (0..=6).chain(edges);
+    let numbers = || (0..=7).chain(edges);
     for number in numbers() {
         for setting in numbers() {
             let design = Design::from_numbers(number, setting);

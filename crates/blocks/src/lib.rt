@@ -3,8 +3,9 @@
 // places. The other places keep their contents. A block has 32-bit numbers only, so that the compiler takes four pairs at a time.
 ghost use Prim.Native.Nat.{_+_};
 ghost use lib.IntN.{_*ℤ_};
-ghost use Rattle.designs.specs.Designs.{nearest};
+ghost use Rattle.designs.specs.Designs.{nearest, twiceTruncated};
 ghost use Rattle.patterns.specs.Blocks.{Done, place, Small};
+ghost use Rattle.patterns.specs.Patterns.{clamped};
 ghost use Rattle.blocks.specs.Residues.{Filled, FilledByStages};
 
 // By design 2, the nearest power.
@@ -39,6 +40,20 @@ fn multiply(n: usize, block: &mut [i32])
         let p = block[j];
         let q = block[n + j];
         block[j] = p * q;
+        j += 1;
+    }
+}
+
+// By design 5, with the kept bits taken as `patterns` takes them.
+pub fn twice_truncated_residues(kept_bits: u32, weights: &[i16], frame: &[i16], block: &mut [i32])
+    ensures { λ r. ⌜ Filled (twiceTruncated (clamped «kept_bits»)) (now (weights .entry)) (now (frame .entry)) (now (block .entry)) (now (block .exit)) ⌝ }
+{
+    let n = pairs::taken(weights.len(), frame.len(), block.len());
+    let mut j = 0;
+    while j < n {
+        let w = weights[j];
+        let x = frame[j];
+        block[j] = patterns::twice_truncated_residue(kept_bits, w, x);
         j += 1;
     }
 }

@@ -90,7 +90,7 @@ fn laid(answer: rows::Scored) -> ScoredRow
     }
 }
 
-// A row by any design decides between the four below. By way of `rows::score_row` an answer would be copied once more before it is laid
+// A row by any design decides between the five below. By way of `rows::score_row` an answer would be copied once more before it is laid
 // out.
 #[no_mangle]
 pub extern "C" fn highvane_score_row(
@@ -113,6 +113,9 @@ pub extern "C" fn highvane_score_row(
     }
     if design == 4 {
         return highvane_score_row_truncated(setting, weights, frame, residues);
+    }
+    if design == 5 {
+        return highvane_score_row_twice_truncated(setting, weights, frame, residues);
     }
     laid(rows::Scored::Refused(refusals::UNKNOWN_DESIGN))
 }
@@ -165,6 +168,18 @@ pub extern "C" fn highvane_score_row_truncated(
     ensures { λ r. ⌜ RowStruct 4 setting (now (weights .entry)) (now (frame .entry)) (now (residues .entry)) (now (residues .exit)) r ⌝ }
 {
     laid(rows::score_row_truncated(setting, weights, frame, residues))
+}
+
+#[no_mangle]
+pub extern "C" fn highvane_score_row_twice_truncated(
+    setting: u32,
+    weights: &[i16],
+    frame: &[i16],
+    residues: &mut [i64],
+) -> ScoredRow
+    ensures { λ r. ⌜ RowStruct 5 setting (now (weights .entry)) (now (frame .entry)) (now (residues .entry)) (now (residues .exit)) r ⌝ }
+{
+    laid(rows::score_row_twice_truncated(setting, &weights[..], &frame[..], residues))
 }
 
 #[no_mangle]

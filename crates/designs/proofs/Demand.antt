@@ -1,12 +1,13 @@
 -- The third demand holds of every report. Each design bounds the residue of one pair by c × |residue| ≤ d × |product| + e × [no zero],
--- `RowSums.sum-bound` carries that to the row at once for all designs, and a row of one pair is that pair. Assumes nothing.
+-- `RowSums.sum-bound` carries that to the row at once for all designs, and a row of one pair is that pair. Design 5 promises no fraction, so its
+-- coefficients are 0. Assumes nothing.
 use mathlib.Core.Path.{_≡_, refl, sym, ap, ap₂, _∙_, subst, subst₂}
 use Prim.Native.Nat.{ℕ, zero, suc, _+_, _*_, _^_, _≤_, _<_}
 use native.Mathlib.Omega.{arith}
 use mathlib.Core.List.{List, [], _∷_}
 use lib.Ieee.{unlike}
 use lib.IntN.{ℤ, natAbs, _-ℤ_, _*ℤ_, +ℤ-idr}
-use Rattle.designs.specs.Designs.{Design, mitchell, nearest, staged, truncated, unlessZero, formula, product, byMitchell, byStages, byTruncation, left}
+use Rattle.designs.specs.Designs.{Design, mitchell, nearest, staged, truncated, twiceTruncated, unlessZero, formula, product, byMitchell, byStages, byTruncation, left}
 use Rattle.designs.specs.Signs.{negative, signedProduct, residue}
 use Rattle.designs.specs.Rows.{report, pairwise, sumℤ, sum, nonzero}
 use Rattle.designs.specs.Demand.{Demand, Bounded, Met}
@@ -25,18 +26,21 @@ c mitchell = 9
 c nearest = 9
 c (staged s) = 4 ^ s
 c (truncated t) = 9 * 2 ^ t
+c (twiceTruncated t) = 0
 
 abbrev d : Design → ℕ
 d mitchell = 1
 d nearest = 1
 d (staged s) = 1
 d (truncated t) = 2 ^ t + 18
+d (twiceTruncated t) = 0
 
 abbrev e : Design → ℕ
 e mitchell = 0
 e nearest = 0
 e (staged s) = 0
 e (truncated t) = 9 * 2 ^ t
+e (twiceTruncated t) = 0
 
 -- one pair of magnitudes
 formula-bound : (D : Design) (A B : ℕ) → 0 < A → 0 < B → c D * dist (A * B) (formula D A B) ≤ d D * (A * B) + e D
@@ -50,6 +54,7 @@ formula-bound (staged s) A B ha hb =
           (within-less (4 ^ s) (A * B) (byStages s A B) (left s A * left s B) (A * B) (stages-leave s A B) (left-bound s A B)),
     )
 formula-bound (truncated t) A B ha hb = within-dist (9 * 2 ^ t) _ (A * B) (byTruncation t A B) (truncated-within t A B ha hb)
+formula-bound (twiceTruncated t) A B ha hb = omega arith
 
 pair-bound : (D : Design) (A B : ℕ) → c D * dist (A * B) (product D A B) ≤ d D * (A * B) + e D * unlessZero A B 1
 pair-bound D =
@@ -88,6 +93,7 @@ bounded mitchell error T n h = omega arith
 bounded nearest error T n h = omega arith
 bounded (staged s) error T n h = omega arith
 bounded (truncated t) error T n h = h
+bounded (twiceTruncated t) error T n h = tt
 
 -- a row of a single pair
 single-error : (D : Design) (x y : ℤ) → natAbs (report D (x ∷ []) (y ∷ []) .error) ≡ dist (natAbs x * natAbs y) (product D (natAbs x) (natAbs y))
@@ -104,6 +110,7 @@ formula-met mitchell A B h g = mitchell-equal A B h g
 formula-met nearest A B h g = nearest-equal A B h g
 formula-met (staged s) A B h g = tt
 formula-met (truncated t) A B h g = tt
+formula-met (twiceTruncated t) A B h g = tt
 
 single-met : (D : Design) (x y : ℤ) → 0 < natAbs x → 0 < natAbs y
     → Met D (natAbs (report D (x ∷ []) (y ∷ []) .error)) (report D (x ∷ []) (y ∷ []) .magnitudeSum) (natAbs x) (natAbs y)

@@ -1,6 +1,6 @@
 -- Design 4 by codes with t kept bits. Their sum has the two cases of the design before its carry: with 1 at the last kept bit it is the
 -- code of the product where that is whole, which is where the quotient reaches t; below, nothing was cut, and the carry is less than
--- what is rounded down, so the sum alone is the code of the product. Assumes nothing.
+-- what is rounded down, so the sum alone is the code of the product. Raised by t, it is whole with the carry everywhere. Assumes nothing.
 use mathlib.Core.Path.{_≡_, sym, ap, ap₂, _∙_}
 use Prim.Native.Nat.{ℕ, suc, _+_, _-_, _*_, _/_, _^_, _≤_, _<_}
 use native.Mathlib.Nat.{eq-of-mul-eq-mul-right, mul-comm, mul-div-cancel, mul-le-mul-right}
@@ -11,12 +11,12 @@ use lib.Arith.{digits-div}
 use lib.Dec.{ltb}
 use lib.Pow.{pow-add, pow-lt, pow-pos}
 use Rattle.designs.specs.Codes.{code, scaledProduct}
-use Rattle.designs.specs.Designs.{byMitchell, byTruncation, kept, log2, rest}
+use Rattle.designs.specs.Designs.{byMitchell, byTruncation, kept, log2, rest, total}
 use Rattle.designs.proofs.Carried.{carried, carried-scale}
 use Rattle.designs.proofs.Cases.{by-lt, either-lt}
 use Rattle.designs.proofs.Codes.{scaled, scaled-carried}
 use Rattle.designs.proofs.Parts.{up-to}
-use Rattle.designs.proofs.Truncated.{total, total-lt, truncation-at}
+use Rattle.designs.proofs.Truncated.{total-lt, truncation-at}
 
 -- a code with t bits of its fraction
 unfoldable pub keptCode : ℕ → ℕ → ℕ → ℕ
@@ -55,11 +55,11 @@ module _ (h t A B : ℕ) (ht : t ≤ h) (ha : A < 2 ^ suc h) (hb : B < 2 ^ suc h
   unfolding keptCode
   sum-is = omega arith
 
-  -- what a sum of fractions stands for
-  raised : (v : ℕ) → v < 2 * 2 ^ t → scaledProduct h (e * 2 ^ h + v * P) ≡ P * (2 ^ e * carried (2 ^ t) v)
-  raised v l =
-      scaled-carried h e (v * P) (omega (arith, scale, mul-le-mul-right P l, pow-pos (h - t)))
-      ∙ ap (λ (x : ℕ). 2 ^ e * x) (ap₂ carried scale (mul-comm v P) ∙ sym (carried-scale P (2 ^ t) v (pow-pos (h - t)))) ∙ omega arith
+  -- what a sum of fractions stands for, above any quotient
+  raised : (q v : ℕ) → v < 2 * 2 ^ t → scaledProduct h (q * 2 ^ h + v * P) ≡ P * (2 ^ q * carried (2 ^ t) v)
+  raised q v l =
+      scaled-carried h q (v * P) (omega (arith, scale, mul-le-mul-right P l, pow-pos (h - t)))
+      ∙ ap (λ (x : ℕ). 2 ^ q * x) (ap₂ carried scale (mul-comm v P) ∙ sym (carried-scale P (2 ^ t) v (pow-pos (h - t)))) ∙ omega arith
 
   abbrev N : ℕ
   N = 2 ^ e * carried (2 ^ t) (total t A B)
@@ -72,7 +72,7 @@ module _ (h t A B : ℕ) (ht : t ≤ h) (ha : A < 2 ^ suc h) (hb : B < 2 ^ suc h
 
   with-carry : t * 2 ^ h ≤ c → scaledProduct h (c + P) ≡ 2 ^ h * byTruncation t A B
   with-carry g =
-      ap (scaledProduct h) (omega (arith, sum-is)) ∙ raised (total t A B) (total-lt t A B)
+      ap (scaledProduct h) (omega (arith, sum-is)) ∙ raised e (total t A B) (total-lt t A B)
       ∙ either-lt u (2 ^ t)
       (λ l. divided (2 ^ (e - t) * carried (2 ^ t) (total t A B))
       (omega (arith, ap (λ (x : ℕ). x * carried (2 ^ t) (total t A B)) (up-to e t (reach e (omega (arith, scale, sum-is, mul-le-mul-right P l, pow-pos (h - t))))))))
@@ -110,7 +110,7 @@ module _ (h t A B : ℕ) (ht : t ≤ h) (ha : A < 2 ^ suc h) (hb : B < 2 ^ suc h
       whole : 2 ^ e * carried (2 ^ t) u ≡ byMitchell A B * 2 ^ t
       whole =
           eq-of-mul-eq-mul-right P (pow-pos (h - t)) (2 ^ e * carried (2 ^ t) u) (byMitchell A B * 2 ^ t)
-          (omega (arith, ap (λ (x : ℕ). x * byMitchell A B) scale, sym (ap (scaledProduct h) sum-is ∙ raised u (omega (arith, total-lt t A B))) ∙ exact))
+          (omega (arith, ap (λ (x : ℕ). x * byMitchell A B) scale, sym (ap (scaledProduct h) sum-is ∙ raised e u (omega (arith, total-lt t A B))) ∙ exact))
 
       step : u < 2 ^ t → N ≡ 2 ^ e * carried (2 ^ t) u + 2 ^ e
       step l = simp (lt-ltb u (2 ^ t) l) (by-lt (λ (x : ℕ). 2 ^ e * x ≡ 2 ^ e * (2 ^ t + u) + 2 ^ e) (total t A B) (2 ^ t) (λ m. omega arith) (λ m. omega (arith, ap (λ (x : ℕ). 2 ^ e * x) (same m))))
@@ -125,3 +125,9 @@ module _ (h t A B : ℕ) (ht : t ≤ h) (ha : A < 2 ^ suc h) (hb : B < 2 ^ suc h
   kept-scaled =
       by-lt (λ (x : ℕ). scaledProduct h (c + x) ≡ 2 ^ h * byTruncation t A B) c (t * 2 ^ h)
       (λ l. ap (scaledProduct h) (omega arith) ∙ without-carry l) with-carry
+
+  -- t places higher it is whole in every case, and what the design rounds down
+  pub kept-raised : scaledProduct h (c + P + t * 2 ^ h) ≡ 2 ^ h * N
+  kept-raised =
+      ap (scaledProduct h) (omega (arith, sum-is)) ∙ raised (e + t) (total t A B) (total-lt t A B)
+      ∙ rw (pow-add 2 e t) (omega (arith, ap (λ (x : ℕ). x * N) scale))

@@ -11,6 +11,7 @@ pub mod Mitchell
 pub mod Nearest
 pub mod Staged
 pub mod Truncated
+pub mod TwiceTruncated
 pub mod Widths
 pub mod Inside
 pub mod Squares

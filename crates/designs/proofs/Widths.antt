@@ -1,11 +1,12 @@
 -- A product of u-bit and v-bit magnitudes has at most u + v bits, in every design and setting: designs 1 and 3 fall short of the
--- true product, design 2 of a product of powers or of the true one, and design 4 of 4 × 2^(k+m). Assumes nothing.
+-- true product, design 2 of a product of powers or of the true one, and designs 4 and 5 of 4 × 2^(k+m). Assumes nothing.
 use mathlib.Core.Path.{_≡_, ap, _∙_, subst}
 use Prim.Native.Nat.{ℕ, _+_, _*_, _/_, _^_, _≤_, _<_}
-use native.Mathlib.Nat.{mul-le-mul, mul-le-mul-left, mul-le-mul-right, div-lt-iff-lt-mul, mul-pos, le-antisymm, zero-div}
+use native.Mathlib.Nat.{mul-le-mul, mul-le-mul-left, mul-le-mul-right, div-lt-iff-lt-mul, mul-pos, le-antisymm}
 use native.Mathlib.Omega.{arith}
+use borrow.Author.Tests.{lt-ltb}
 use lib.Pow.{pow-add, pow-lt, pow-mono, pow-pos}
-use Rattle.designs.specs.Designs.{Design, mitchell, nearest, staged, truncated, log2, rest, nearPower, byNearest, kept, byTruncation, formula, product, KeepsBit}
+use Rattle.designs.specs.Designs.{Design, mitchell, nearest, staged, truncated, twiceTruncated, log2, rest, nearPower, byNearest, kept, leftOver, secondStage, byTruncation, byTwoTruncations, formula, product, KeepsBit, total}
 use Rattle.designs.proofs.Cases.{by-le, by-lt, either-lt}
 use Rattle.designs.proofs.Parts.{parts, log2-is, log2-below, log2-double}
 use Rattle.designs.proofs.Zeros.{by-zero, product-is}
@@ -13,7 +14,8 @@ use Rattle.designs.proofs.Mitchell.{mitchell-short}
 use Rattle.designs.proofs.Nearest.{Near, under, over, near-is, at, nearest-at}
 use Rattle.designs.proofs.Staged.{stages-leave}
 use Rattle.designs.proofs.Carried.{carried, carried-lt}
-use Rattle.designs.proofs.Truncated.{total, total-lt, truncation-at}
+use Rattle.designs.proofs.Truncated.{kept-none, total-lt, truncation-at}
+use Rattle.designs.proofs.TwiceTruncated.{twice-lt}
 
 -- the exponent of the nearest power is at most the width
 pub nearPower-below : (w A : ℕ) → 0 < A → A < 2 ^ w → nearPower A ≤ w
@@ -54,6 +56,8 @@ module _ (u v A B : ℕ) (pa : 0 < A) (pb : 0 < B) (ha : A < 2 ^ u) (hb : B < 2 
   formula-lt nearest = nearest-lt
   formula-lt (staged s) = omega (arith, stages-leave s A B, true-lt)
   formula-lt (truncated t) = truncated-lt t
+  formula-lt (twiceTruncated t) =
+      omega (arith, twice-lt t A B, mul-le-mul (log2-double u A pa ha) (log2-double v B pb hb))
 
 pub product-lt : (D : Design) (u v A B : ℕ) → A < 2 ^ u → B < 2 ^ v → product D A B < 2 ^ (u + v)
 product-lt D u v A B ha hb =
@@ -67,7 +71,7 @@ module _ (v : ℕ) where
   power-log2 : log2 (2 ^ v) ≡ v
   power-log2 = log2-is (2 ^ v) v (omega arith) (pow-lt (omega arith))
 
-  power-rest : rest (2 ^ v) ≡ 0
+  pub power-rest : rest (2 ^ v) ≡ 0
   power-rest = omega (arith, parts (2 ^ v) (pow-pos v), ap (λ (k : ℕ). 2 ^ k) power-log2)
 
   power-nearPower : nearPower (2 ^ v) ≡ v
@@ -76,9 +80,8 @@ module _ (v : ℕ) where
       by-le (λ (k : ℕ). k ≡ v) (2 ^ log2 (2 ^ v)) (2 * rest (2 ^ v))
       (λ h. absurd (omega (arith, power-rest, pow-pos (log2 (2 ^ v))))) (λ h. power-log2)
 
-  power-kept : (t : ℕ) → kept t (2 ^ v) ≡ 0
-  unfolding kept
-  power-kept t = rw power-rest (ap (λ (x : ℕ). x / 2 ^ log2 (2 ^ v)) (omega arith) ∙ zero-div (2 ^ log2 (2 ^ v)))
+  pub power-kept : (t : ℕ) → kept t (2 ^ v) ≡ 0
+  power-kept t = kept-none t (2 ^ v) power-rest
 
   power-truncated : (t : ℕ) → 0 < t → byTruncation t (2 ^ v) (2 ^ v) < 2 * (2 ^ v * 2 ^ v)
   power-truncated t h =
@@ -88,12 +91,18 @@ module _ (v : ℕ) where
       alone : carried (2 ^ t) (0 + 0 + 1) < 2 * 2 ^ t
       alone = by-lt (λ (z : ℕ). z < 2 * 2 ^ t) 1 (2 ^ t) (λ l. omega arith) (λ l. absurd (omega (arith, pow-mono h)))
 
+  -- nothing is left for the second stage
+  power-twice : (t : ℕ) → 0 < t → byTwoTruncations t (2 ^ v) (2 ^ v) ≡ byTruncation t (2 ^ v) (2 ^ v)
+  unfolding byTwoTruncations secondStage leftOver
+  power-twice t h = rw (power-kept t, lt-ltb 1 (2 ^ t) (pow-mono h), power-rest) (omega arith)
+
   power-lt : (D : Design) → KeepsBit D → formula D (2 ^ v) (2 ^ v) < 2 * (2 ^ v * 2 ^ v)
   unfolding formula
   power-lt mitchell k = omega (arith, mitchell-short (2 ^ v) (2 ^ v) (pow-pos v) (pow-pos v), mul-pos (pow-pos v) (pow-pos v))
   power-lt nearest k = rw (nearest-at (2 ^ v) (2 ^ v) (pow-pos v) (pow-pos v), power-nearPower) (omega (arith, mul-pos (pow-pos v) (pow-pos v)))
   power-lt (staged s) k = omega (arith, stages-leave s (2 ^ v) (2 ^ v), mul-pos (pow-pos v) (pow-pos v))
   power-lt (truncated t) k = power-truncated t k
+  power-lt (twiceTruncated t) k = rw (power-twice t k) (power-truncated t k)
 
 pub size-lt : (D : Design) → KeepsBit D → (v A B : ℕ) → A ≤ 2 ^ v → B ≤ 2 ^ v → product D A B < 2 ^ (v + v + 1)
 size-lt D k v A B ha hb =

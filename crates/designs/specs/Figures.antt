@@ -1,4 +1,4 @@
--- The starred twelve of docs/SCOPE.md, "Figures to hold the designs to", in one list with one proof, of the meaning itself.
+-- The starred figures of docs/SCOPE.md, "Figures to hold the designs to", in one list with one proof, of the meaning itself.
 use mathlib.Core.Path.{_≡_, refl}
 use mathlib.Core.List.{List, [], _∷_, map}
 use Prim.Native.Nat.{ℕ}
@@ -49,6 +49,9 @@ figures =
     ∷ (unsigned 3 3 8 7 7, natural (accepted 49) (pos 0))
     ∷ (unsigned 4 4 8 3 3, natural (accepted 8) (pos 1))
     ∷ (unsigned 4 4 8 16 16, natural (accepted 272) (− 16))
+    ∷ (unsigned 5 4 8 3 3, natural (accepted 8) (pos 1))
+    ∷ (unsigned 5 4 8 5 5, natural (accepted 26) (− 1))
+    ∷ (unsigned 5 4 8 7 7, natural (accepted 50) (− 1))
     ∷ (row 1 0 (pos 3 ∷ − 5 ∷ pos 0 ∷ []) (pos 3 ∷ pos 6 ∷ pos 7 ∷ []), scored starredRow (pos 1 ∷ − 2 ∷ pos 0 ∷ []))
     ∷ []
 
@@ -75,12 +78,16 @@ unsignedJudged =
     ∷ (unsignedOutcome 3 12 13 4095 4095, refused 3)
     ∷ (unsignedOutcome 4 12 11 3 3, accepted 8)
     ∷ (unsignedOutcome 4 12 12 3 3, refused 3)
+    ∷ (unsignedOutcome 5 12 11 3 3, accepted 8)
+    ∷ (unsignedOutcome 5 12 12 3 3, refused 3)
+    ∷ (unsignedOutcome 5 32 31 4294967295 4294967295, accepted 18446744069414584320)
     ∷ (unsignedOutcome 1 16 0 65535 65535, accepted 4294836224)
     ∷ (unsignedOutcome 1 16 0 65535 65536, refused 20)
     ∷ (unsignedOutcome 2 32 0 4294967295 4294967295, accepted 18446744065119617024)
     ∷ (unsignedOutcome 2 32 0 4294967296 1, refused 4)
     ∷ (unsignedOutcome 0 8 0 3 3, refused 1)
-    ∷ (unsignedOutcome 5 8 0 3 3, refused 1)
+    ∷ (unsignedOutcome 5 8 0 3 3, refused 3)
+    ∷ (unsignedOutcome 6 8 0 3 3, refused 1)
     ∷ (unsignedOutcome 1 10 0 3 3, refused 2)
     ∷ (unsignedOutcome 1 11 0 3 3, refused 2)
     ∷ (unsignedOutcome 1 13 0 3 3, refused 2)
@@ -101,6 +108,9 @@ judged =
     ∷ (signedOutcome 3 8 9 (pos 7) (pos 7), refused 3)
     ∷ (signedOutcome 4 8 7 (pos 16) (pos 16), accepted (pos 258))
     ∷ (signedOutcome 4 8 8 (pos 16) (pos 16), refused 3)
+    ∷ (signedOutcome 5 8 7 (pos 16) (pos 16), accepted (pos 258))
+    ∷ (signedOutcome 5 8 8 (pos 16) (pos 16), refused 3)
+    ∷ (signedOutcome 5 8 4 (− 5) (pos 5), accepted (− 26))
     ∷ (signedOutcome 1 8 0 (− 128) (pos 1), accepted (− 128))
     ∷ (signedOutcome 1 8 0 (pos 1) (− 128), accepted (− 128))
     ∷ (signedOutcome 1 8 0 (pos 128) (pos 5), refused 4)
@@ -117,7 +127,7 @@ judged =
     ∷ (signedOutcome 1 8 1 (pos 5) (pos 128), refused 3)
     ∷ (signedOutcome 1 8 1 (pos 128) (pos 128), refused 3)
     ∷ (signedOutcome 1 7 1 (pos 128) (pos 128), refused 2)
-    ∷ (signedOutcome 5 7 1 (pos 128) (pos 128), refused 1)
+    ∷ (signedOutcome 6 7 1 (pos 128) (pos 128), refused 1)
     ∷ []
 
 pub judged-hold : map (λ j. j .0) judged ≡ map (λ j. j .1) judged
@@ -138,6 +148,9 @@ lengthsJudged =
     ∷ (first (rowRefusals 3 17 0 0 0), 3)
     ∷ (first (rowRefusals 4 15 0 0 0), 0)
     ∷ (first (rowRefusals 4 16 0 0 0), 3)
+    ∷ (first (rowRefusals 5 15 0 0 0), 0)
+    ∷ (first (rowRefusals 5 16 0 0 0), 3)
+    ∷ (first (rowRefusals 6 15 0 0 0), 1)
     ∷ []
 
 pub lengthsJudged-hold : map (λ j. j .0) lengthsJudged ≡ map (λ j. j .1) lengthsJudged
@@ -159,7 +172,7 @@ rows =
     ∷ (into 1 0 (pos 3 ∷ − 5 ∷ []) (pos 3 ∷ pos 6 ∷ []) (pos 91 ∷ []), (refused 7, pos 91 ∷ []))
     ∷ (into 2 0 [] [] places, (accepted emptyReport, places))
     ∷ (into 1 1 (pos 3 ∷ []) [] places, (refused 3, places))
-    ∷ (into 5 99 (pos 3 ∷ []) [] places, (refused 1, places))
+    ∷ (into 6 99 (pos 3 ∷ []) [] places, (refused 1, places))
     ∷ []
 
 pub rows-hold : map (λ r. r .0) rows ≡ map (λ r. r .1) rows

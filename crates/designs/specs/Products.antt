@@ -4,14 +4,14 @@ use mathlib.Core.Bool.{Bool, not, _&&_, cond}
 use mathlib.Core.List.{List, [], _∷_, _++_}
 use lib.Dec.{leb, eqb}
 use lib.IntN.{ℤ, pos, negsuc}
-use Rattle.designs.specs.Designs.{Design, mitchell, nearest, staged, truncated, product}
+use Rattle.designs.specs.Designs.{Design, mitchell, nearest, staged, truncated, twiceTruncated, product}
 use Rattle.designs.specs.Signs.{signedProduct}
 use Rattle.designs.specs.Lists.{_isIn_}
 use Rattle.designs.specs.Outcomes.{Outcome, Refusal, _when_, first, unlessRefused}
 
--- The designs are numbered 1 to 4.
+-- The designs are numbered 1 to 5.
 abbrev pub isDesign : ℕ → Bool
-isDesign n = leb 1 n && leb n 4
+isDesign n = leb 1 n && leb n 5
 
 -- The widths, in bits.
 abbrev pub widths : List ℕ
@@ -20,12 +20,14 @@ widths = 8 ∷ 12 ∷ 16 ∷ 32 ∷ []
 unfoldable pub isWidth : ℕ → Bool
 isWidth w = w isIn widths
 
--- Design n with a setting. Only the numbers 1 to 4 reach a product.
+-- Design n with a setting. Only the numbers 1 to 5 reach a product.
 abbrev pub designOf : ℕ → ℕ → Design
-designOf n setting = cond (eqb n 1) mitchell (cond (eqb n 2) nearest (cond (eqb n 3) (staged setting) (truncated setting)))
+designOf n setting =
+    cond (eqb n 1) mitchell
+    (cond (eqb n 2) nearest (cond (eqb n 3) (staged setting) (cond (eqb n 4) (truncated setting) (twiceTruncated setting))))
 
 -- Whether design n takes a setting at width w: 0 for designs 1 and 2, from 1 to w stages for design 3, from 1 to w − 1 kept bits for
--- design 4.
+-- designs 4 and 5.
 abbrev pub takesSetting : ℕ → ℕ → ℕ → Bool
 takesSetting n w setting = cond (leb n 2) (eqb setting 0) (leb 1 setting && leb setting (cond (eqb n 3) w (w - 1)))
 

@@ -1,6 +1,6 @@
-// Powers of two, shifts that lose nothing, and the floor of the logarithm.
+// Powers of two, shifts that lose nothing, the floor of the logarithm, and the greater of two numbers.
 ghost use mathlib.Core.Path.{_≡_};
-ghost use Prim.Native.Nat.{_+_, _*_, _^_, _≤_, _<_};
+ghost use Prim.Native.Nat.{max, _+_, _*_, _^_, _≤_, _<_};
 ghost use Rattle.designs.specs.Designs.{log2, rest};
 ghost use Rattle.kernels.specs.Steps.{Log2};
 
@@ -39,4 +39,13 @@ pub(crate) fn rest_of(x: u32, k: u32) -> u32
     ensures { λ r. ⌜ r ≡ rest x ⌝ }
 {
     x & !(1u32 << k)
+}
+
+pub(crate) fn greater(x: u64, y: u64) -> u64
+    ensures { λ r. ⌜ r ≡ max x y ⌝ }
+{
+    if x < y {
+        return y;
+    }
+    x
 }

@@ -1,17 +1,20 @@
-// The four designs as total functions on magnitudes of up to 32 bits, whatever the width of the operands they come from. They are no
+// The designs as total functions on magnitudes of up to 32 bits, whatever the width of the operands they come from. They are no
 // operations of docs/SCOPE.md: they judge nothing and refuse nothing. They shift and add; none multiplies.
 ghost use mathlib.Core.Path.{_≡_};
-ghost use Prim.Native.Nat.{min, max, _<_};
-ghost use Rattle.designs.specs.Designs.{product, mitchell, nearest, staged, truncated};
-ghost use Rattle.kernels.specs.Steps.{served, NearPower};
+ghost use Prim.Native.Nat.{_<_};
+ghost use Rattle.designs.specs.Designs.{product, mitchell, nearest, staged};
+ghost use Rattle.kernels.specs.Steps.{NearPower};
 
 mod bits;
+mod truncation;
 
-use crate::bits::headroom;
+use crate::bits::greater;
 use crate::bits::log2_floor;
 use crate::bits::power;
 use crate::bits::rest_of;
 use crate::bits::shifted;
+pub use truncation::truncated;
+pub use truncation::twice_truncated;
 
 // Design 1, Mitchell.
 pub fn mitchell(a: u32, b: u32) -> u64
@@ -29,15 +32,6 @@ pub fn mitchell(a: u32, b: u32) -> u64
     let s = shifted(rest_of(a, k), m) + y;
     // a × 2^m + y is 2^(k+m) + s, the greater of the two where s does not carry
     greater(shifted(a, m) + y, s + s)
-}
-
-fn greater(x: u64, y: u64) -> u64
-    ensures { λ r. ⌜ r ≡ max x y ⌝ }
-{
-    if x < y {
-        return y;
-    }
-    x
 }
 
 // Design 2, nearest power.
@@ -88,36 +82,4 @@ pub fn staged(stages: u32, a: u32, b: u32) -> u64
     // 2^(k+m) + x × 2^m is a × 2^m
     let output = shifted(a, m) + shifted(y, k);
     output + staged(stages - 1, x, y)
-}
-
-// Design 4, truncated, with at most 31 kept bits: all that a width of 32 takes.
-pub fn truncated(kept_bits: u32, a: u32, b: u32) -> u64
-    ensures { λ r. ⌜ r ≡ product (served (truncated «kept_bits»)) a b ⌝ }
-{
-    if a == 0 {
-        return 0;
-    }
-    if b == 0 {
-        return 0;
-    }
-    let t = at_most_31(kept_bits);
-    let k = headroom(a);
-    let m = headroom(b);
-    // the last kept bit, and 2^31, made of it so that the compiler keeps it in a register
-    let last = power(31 - t);
-    let one = last << t;
-    let mask = one - last;
-    // the sum of both kept fractions, below the leading bits at 2^31, with the carry of 1 at the last kept bit
-    let s = (shifted(a, k) & mask) + (shifted(b, m) & mask) + last;
-    // 2^31 × 2^31 over the power of the product is 2^(k+m)
-    ((s + greater(one, s)) << 31) >> (k + m)
-}
-
-fn at_most_31(t: u32) -> u32
-    ensures { λ r. ⌜ r ≡ min t 31 ⌝ }
-{
-    if t < 31 {
-        return t;
-    }
-    31
 }

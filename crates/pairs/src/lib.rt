@@ -1,7 +1,7 @@
-// A pair of 16-bit numbers, a weight and a number of a frame: its true product, the size of that, and whether it holds a zero. No branch of
+// A pair of 16-bit numbers, a weight and a number of a frame: its true product, the size of that and of each number, and whether it holds a zero. No branch of
 // the compiled code depends on the numbers. And how many pairs there are, by the lengths of their slices.
 ghost use mathlib.Core.Path.{_≡_};
-ghost use Prim.Native.Nat.{min, _-_};
+ghost use Prim.Native.Nat.{min, _-_, _^_, _<_};
 ghost use lib.IntN.{natAbs, _*ℤ_};
 ghost use Rattle.designs.specs.Rows.{nonzero};
 ghost use Rattle.pairs.specs.Lengths.{pairsOf};
@@ -17,7 +17,20 @@ pub fn true_product(w: i16, x: i16) -> i32
 pub fn true_size(w: i16, x: i16) -> u32
     ensures { λ r. ⌜ r ≡ natAbs (w *ℤ x) ⌝ }
 {
-    let z = true_product(w, x);
+    without_sign(true_product(w, x))
+}
+
+// The size of a number.
+pub fn size(x: i16) -> u32
+    ensures { λ r. ⌜ r ≡ natAbs x ⌝ }
+{
+    without_sign(x as i32)
+}
+
+fn without_sign(z: i32) -> u32
+    requires { ⌜ natAbs z < 2 ^ 31 ⌝ }
+    ensures { λ r. ⌜ r ≡ natAbs z ⌝ }
+{
     if z < 0 {
         return (0 - z) as u32;
     }

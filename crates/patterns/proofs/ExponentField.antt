@@ -104,7 +104,7 @@ module _ (A : ℕ) (l : A ≤ 2 ^ 15) where
       down : (k f : ℕ) → f < 2 ^ 22 → (2 ^ 23 * k + f + 2 ^ 22) / 2 ^ 23 ≡ k
       down k f a = omega arith
 
-lead-at : (A : ℕ) → A ≤ 2 ^ 15 → fieldPower 0 A ≡ lead A
+pub lead-at : (A : ℕ) → A ≤ 2 ^ 15 → fieldPower 0 A ≡ lead A
 lead-at zero l = refl
 lead-at (suc n) l = ap (λ (K : ℕ). 2 ^ K) (whole-part (suc n) l)
 

@@ -11,8 +11,6 @@ use lib.Dec.{ltb}
 use lib.Ieee.{unlike}
 use lib.IntN.{ℤ, natAbs, _*ℤ_}
 use lib.Pow.{pow-mono, pow-pos, shr-mod}
-use mir.Syntax.{w16}
-use mir.Val.{SFits}
 use Rattle.designs.specs.Codes.{code}
 use Rattle.designs.specs.Designs.{formula, kept, log2, rest, truncated}
 use Rattle.designs.specs.Signs.{negative, signedProduct}
@@ -22,7 +20,6 @@ use Rattle.designs.proofs.KeptCodes.{kept-scaled, keptCode}
 use Rattle.designs.proofs.Parts.{up-to}
 use Rattle.designs.proofs.Truncated.{kept-lt, shift-down}
 use Rattle.patterns.specs.Patterns.{Less, logPattern, patternOf}
-use Rattle.pairs.proofs.Integers.{size16}
 use Rattle.patterns.proofs.Pair.{less, log-sum, pattern-at}
 
 -- the fraction of a code, cut at the last kept bit
@@ -76,7 +73,10 @@ module _ (t : ℕ) (ht : t ≤ 15) where
       back true = omega (arith, scale, ap (λ (x : ℕ). log2 A * x) scale)
       back false = omega (arith, scale, ap (λ (x : ℕ). log2 A * x) scale)
 
-  code-small : (A : ℕ) → A ≤ 2 ^ 15 → keptCode 23 t A < 24 * 2 ^ 23
+  pub cut-at : (z : ℤ) → 0 < natAbs z → natAbs z ≤ 2 ^ 15 → bitAnd (patternOf z) (2 ^ 32 - P) ≡ logPattern (negative z) (keptCode 23 t (natAbs z))
+  cut-at z p h = ap (λ (q : ℕ). bitAnd q (2 ^ 32 - P)) (pattern-at z p) ∙ masked (negative z) (natAbs z) h
+
+  pub code-small : (A : ℕ) → A ≤ 2 ^ 15 → keptCode 23 t A < 24 * 2 ^ 23
   unfolding keptCode
   code-small A l =
       let k : log2 A ≤ 23 = log2-le-bits 23 A (omega arith) in
@@ -100,7 +100,7 @@ module _ (t : ℕ) (ht : t ≤ 15) where
       added true y h = omega arith
       added false y h = omega arith
 
-  module _ {w x : ℤ} (hw : SFits w16 w) (hx : SFits w16 x) where
+  module _ (w x : ℤ) (hw : natAbs w ≤ 2 ^ 15) (hx : natAbs x ≤ 2 ^ 15) where
     abbrev A : ℕ
     A = natAbs w
 
@@ -112,7 +112,7 @@ module _ (t : ℕ) (ht : t ≤ 15) where
 
     -- both codes are below 24 × 2^23
     sum-small : c < 48 * 2 ^ 23
-    sum-small = omega (arith, code-small A (size16 hw), code-small B (size16 hx))
+    sum-small = omega (arith, code-small A hw, code-small B hx)
 
     pub truncated-less : (some : 0 < t) (sum r : ℕ) → sum < 2 ^ 32
         → (sum + 127 * 2 ^ 23) % 2 ^ 32 ≡ (bitAnd (patternOf w) (2 ^ 32 - P) + bitAnd (patternOf x) (2 ^ 32 - P)) % 2 ^ 32
@@ -120,7 +120,7 @@ module _ (t : ℕ) (ht : t ≤ 15) where
         → Less (w *ℤ x) r (signedProduct (truncated t) w x)
     unfolding formula
     truncated-less some sum r l es er =
-        less (truncated t) some hw hx r
+        less (truncated t) some w x hw hx r
         (λ pw px.
         record {
           c = c + cond (ltb c (t * 2 ^ 23)) 0 P;
@@ -130,13 +130,10 @@ module _ (t : ℕ) (ht : t ≤ 15) where
           small =
               by-lt (λ (y : ℕ). c + y < 2 ^ 30) c (t * 2 ^ 23) (λ g. omega (arith, sum-small))
               (λ g. omega (arith, sum-small, pow-mono {i = 23 - t} {j = 23} (omega arith)));
-          log = kept-scaled 23 t A B (omega arith) (omega (arith, size16 hw)) (omega (arith, size16 hx));
+          log = kept-scaled 23 t A B (omega arith) (omega (arith, hw)) (omega (arith, hx));
         })
       where
-        cut : (z : ℤ) → 0 < natAbs z → natAbs z ≤ 2 ^ 15 → bitAnd (patternOf z) (2 ^ 32 - P) ≡ logPattern (negative z) (keptCode 23 t (natAbs z))
-        cut z p h = ap (λ (q : ℕ). bitAnd q (2 ^ 32 - P)) (pattern-at z p) ∙ masked (negative z) (natAbs z) h
-
         both : 0 < A → 0 < B → sum ≡ logPattern (unlike (negative w) (negative x)) c
         both pw px =
             log-sum (negative w) (negative x) _ _ sum l (omega (arith, sum-small))
-            (es ∙ ap₂ (λ (p q : ℕ). (p + q) % 2 ^ 32) (cut w pw (size16 hw)) (cut x px (size16 hx)))
+            (es ∙ ap₂ (λ (p q : ℕ). (p + q) % 2 ^ 32) (cut-at w pw hw) (cut-at x px hx))

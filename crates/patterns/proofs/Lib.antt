@@ -3,4 +3,5 @@ pub mod Pair
 pub mod Mitchell
 pub mod ExponentField
 pub mod KeptPatterns
+pub mod SecondStage
 pub mod Blocks

@@ -1,14 +1,14 @@
 -- The pattern of a pair's product. A logarithm of the design's product, with the sign that both numbers give, stands for the signed
 -- product, and a masked zero for 0; the difference to the true product is the residue, of at most 31 bits. Assumes nothing.
-use mathlib.Core.Path.{_≡_, refl, sym, ap, _∙_}
-use Prim.Native.Nat.{ℕ, zero, suc, _+_, _*_, _%_, _^_, _<_}
+use mathlib.Core.Path.{_≡_, refl, sym, ap, ap₂, _∙_}
+use Prim.Native.Nat.{ℕ, zero, suc, _+_, _*_, _%_, _^_, _≤_, _<_}
 use native.Mathlib.Nat.{mul-le-mul}
 use native.Mathlib.Omega.{arith}
 use mathlib.Core.Bool.{Bool, true, false}
 use lib.Ieee.{unlike}
 use lib.IntN.{ℤ, pos, negsuc, natAbs, _-ℤ_, _*ℤ_}
 use lib.Signed.{mag}
-use mir.Syntax.{w16, w32}
+use mir.Syntax.{w32}
 use mir.Val.{SFits, toZ, ofZ}
 use Rattle.designs.specs.Codes.{code, scaledProduct}
 use Rattle.designs.specs.Designs.{Design, KeepsBit, formula, product, unlessZero}
@@ -19,7 +19,7 @@ use Rattle.designs.proofs.Widths.{size-lt}
 use Rattle.designs.proofs.Zeros.{product-is, zero-product}
 use Rattle.patterns.specs.Patterns.{Less, logPattern, patternOf, Stands}
 use Rattle.pairs.proofs.Counting.{both}
-use Rattle.pairs.proofs.Integers.{read-back, size16, sized}
+use Rattle.pairs.proofs.Integers.{read-back, sized}
 use Rattle.patterns.proofs.Values.{nothing, stands}
 
 no-sign : (s : Bool) → withSign s 0 ≡ pos 0
@@ -33,7 +33,7 @@ pub record Log (D : Design) (w x : ℤ) (p : ℕ) : Type 0 where
   pub small : c < 2 ^ 30
   pub log : scaledProduct 23 c ≡ 2 ^ 23 * formula D (natAbs w) (natAbs x)
 
-module _ (D : Design) (k : KeepsBit D) {w x : ℤ} (hw : SFits w16 w) (hx : SFits w16 x) where
+module _ (D : Design) (k : KeepsBit D) (w x : ℤ) (hw : natAbs w ≤ 2 ^ 15) (hx : natAbs x ≤ 2 ^ 15) where
   abbrev A : ℕ
   A = natAbs w
 
@@ -44,7 +44,7 @@ module _ (D : Design) (k : KeepsBit D) {w x : ℤ} (hw : SFits w16 w) (hx : SFit
   sign = unlike (negative w) (negative x)
 
   pub product-size : product D A B < 2 ^ 31
-  product-size = size-lt D k 15 A B (size16 hw) (size16 hx)
+  product-size = size-lt D k 15 A B hw hx
 
   pub residue-size : natAbs (residue D w x) < 2 ^ 31
   unfolding residue signedProduct
@@ -53,7 +53,7 @@ module _ (D : Design) (k : KeepsBit D) {w x : ℤ} (hw : SFits w16 w) (hx : SFit
       (omega (
         arith,
         within-dist 1 2147483647 (A * B) (product D A B)
-            (record { above = omega (arith, mul-le-mul (size16 hw) (size16 hx)); below = omega (arith, product-size) }),
+            (record { above = omega (arith, mul-le-mul hw hx); below = omega (arith, product-size) }),
       ))
 
   pub residue-fits : SFits w32 (residue D w x)
@@ -77,6 +77,22 @@ module _ (D : Design) (k : KeepsBit D) {w x : ℤ} (hw : SFits w16 w) (hx : SFit
 pub residue-is : (D : Design) (w x : ℤ) {r z : ℤ} → mag r < 2 ^ 31 → r ≡ z -ℤ signedProduct D w x → z ≡ w *ℤ x → toZ w32 (ofZ w32 r) ≡ residue D w x
 unfolding residue
 residue-is D w x ok e truth = read-back ok e ∙ ap (λ (z : ℤ). z -ℤ signedProduct D w x) truth
+
+-- a number with a sign has that sign, but for 0, of which nothing is taken off
+same-sign : (s : Bool) (n p : ℕ) → (n ≡ 0 → p ≡ 0) → withSign (negative (withSign s n)) p ≡ withSign s p
+same-sign false n p h = refl
+same-sign true zero p h = rw (h refl) refl
+same-sign true (suc n) p h = refl
+
+-- a true product less the design's size, with the true product's sign
+pub less-size-is : (D : Design) (w x : ℤ) {z : ℤ} {n : ℕ} → z ≡ w *ℤ x → n ≡ product D (natAbs w) (natAbs x)
+    → z -ℤ withSign (negative z) n ≡ residue D w x
+unfolding residue signedProduct
+less-size-is D w x {z} {n} truth size =
+    ap₂ (λ (y : ℤ) (p : ℕ). y -ℤ withSign (negative y) p) truth size
+    ∙ ap (λ (y : ℤ). w *ℤ x -ℤ y)
+    (ap (λ (y : ℤ). withSign (negative y) (product D (natAbs w) (natAbs x))) (true-is w x)
+    ∙ same-sign (unlike (negative w) (negative x)) (natAbs w * natAbs x) (product D (natAbs w) (natAbs x)) (zero-product D (natAbs w) (natAbs x)))
 
 -- the sum of two patterns less that of 1, modulo 2^32
 pub log-sum : (s t : Bool) (a b r : ℕ) → r < 2 ^ 32 → a + b < 2 ^ 30

@@ -1,11 +1,12 @@
 -- Patterns of binary32 as logarithms. Definitions only.
 use mathlib.Core.Path.{_≡_}
 use mathlib.Core.Bool.{Bool, true, false, cond}
-use Prim.Native.Nat.{ℕ, zero, suc, min, max, _+_, _*_, _/_, _^_, _<_}
+use Prim.Native.Nat.{ℕ, zero, suc, min, max, _+_, _*_, _/_, _^_, _≤_, _<_}
+use lib.Dec.{eqb}
 use lib.Ieee.{binary32, binary64, ofBits, ofInt}
 use lib.IntN.{ℤ, pos, negsuc, natAbs, _-ℤ_}
 use Rattle.designs.specs.Codes.{code}
-use Rattle.designs.specs.Designs.{unlessZero}
+use Rattle.designs.specs.Designs.{totalBelow, unlessZero}
 use Rattle.designs.specs.Signs.{negative, withSign}
 
 -- The pattern with a sign and the logarithm c / 2^23: with c = 2^23 × Q + R the exponent field is 127 + Q and the fraction field R, and
@@ -46,3 +47,15 @@ lessPower h z = z -ℤ withSign (negative z) (fieldPower h (natAbs z))
 -- The kept bits that a row takes: at least 1 and at most 15. A setting outside acts as the nearest of these.
 abbrev pub clamped : ℕ → ℕ
 clamped t = max 1 (min t 15)
+
+-- The sizes of two numbers whose true product is z, and how many bits are kept.
+pub record Sizes (t : ℕ) (z : ℤ) (A B : ℕ) : Type 0 where
+  pub some : 0 < t
+  pub few : t ≤ 15
+  pub first : A ≤ 2 ^ 15
+  pub second : B ≤ 2 ^ 15
+  pub truth : natAbs z ≡ A * B
+
+-- Whether S < 2^t; of a pair with a zero, yes.
+unfoldable pub isLow : ℕ → ℕ → ℕ → Bool
+isLow t A B = cond (eqb (A * B) 0) true (totalBelow t A B)

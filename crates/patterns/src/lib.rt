@@ -1,7 +1,7 @@
 // One path for a pair of 16-bit numbers: the residue of each design, for every pair, with no branch in the compiled code that depends
 // on the numbers. A binary32 pattern is a logarithm code above a sign, so the machine's casts take logarithms and powers.
 ghost use mathlib.Core.Path.{_≡_};
-ghost use Rattle.designs.specs.Designs.{mitchell, nearest, staged, truncated};
+ghost use Rattle.designs.specs.Designs.{mitchell, nearest, staged, truncated, twiceTruncated};
 ghost use Rattle.designs.specs.Signs.{residue};
 ghost use Rattle.patterns.specs.Patterns.{clamped};
 
@@ -10,16 +10,20 @@ mod powers;
 mod sizes;
 mod stages;
 mod truncation;
+mod twice;
 
 use crate::logs::log_sum;
 use crate::logs::pattern;
 use crate::logs::residue_by;
 use crate::powers::offset;
 use crate::sizes::less_size;
-use crate::sizes::size;
 use crate::truncation::clamp;
-use crate::truncation::kept_pattern;
+use crate::truncation::cut;
 use crate::truncation::with_carry;
+use crate::twice::first_stage;
+use crate::twice::is_low;
+use crate::twice::left_over;
+use crate::twice::second_stage;
 pub use stages::pairs_left;
 
 // The residue of design 1.
@@ -43,7 +47,7 @@ pub fn staged_residue(stages: u32, w: i16, x: i16) -> i32
 {
     less_size(
         pairs::true_product(w, x),
-        kernels::staged(stages, size(w), size(x)) as u32,
+        kernels::staged(stages, pairs::size(w), pairs::size(x)) as u32,
     )
 }
 
@@ -55,6 +59,21 @@ pub fn truncated_residue(kept_bits: u32, w: i16, x: i16) -> i32
     let t = clamp(kept_bits);
     residue_by(
         pairs::true_product(w, x),
-        with_carry(t, log_sum(kept_pattern(t, w), kept_pattern(t, x))),
+        with_carry(t, log_sum(cut(t, pattern(w)), cut(t, pattern(x)))),
+    )
+}
+
+// The residue of design 5, with the kept bits taken as by design 4.
+pub fn twice_truncated_residue(kept_bits: u32, w: i16, x: i16) -> i32
+    ensures { λ r. ⌜ r ≡ residue (twiceTruncated (clamped «kept_bits»)) w x ⌝ }
+{
+    let t = clamp(kept_bits);
+    let z = pairs::true_product(w, x);
+    let a = pairs::size(w);
+    let b = pairs::size(x);
+    let low = is_low(t, z, a, b);
+    less_size(
+        z,
+        first_stage(t, z, a, b) + second_stage(left_over(low, a), left_over(low, b)),
     )
 }

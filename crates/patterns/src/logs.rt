@@ -1,7 +1,7 @@
 // Numbers to patterns and back.
 ghost use mathlib.Core.Path.{_≡_};
-ghost use Prim.Native.Nat.{_+_, _%_, _*_, _^_, _≤_};
-ghost use lib.IntN.{ℤ, natAbs, _-ℤ_};
+ghost use Prim.Native.Nat.{ℕ, _+_, _%_, _*_, _^_, _≤_};
+ghost use lib.IntN.{ℤ, pos, natAbs, _-ℤ_};
 ghost use Rattle.patterns.specs.Patterns.{Less, maskedBy, patternOf, Stands};
 
 // The pattern of 1, whose logarithm is 0.
@@ -21,12 +21,28 @@ pub(crate) fn pattern(x: i16) -> u32
     pattern_of(x as i32)
 }
 
+// The same of a size.
+pub(crate) fn size_pattern(n: u32) -> u32
+    requires { ⌜ n ≤ 2 ^ 15 ⌝ }
+    ensures { λ r. ⌜ r ≡ patternOf (pos n) ⌝ }
+{
+    pattern_of(n as i32)
+}
+
 // The whole number that a pattern stands for. The way over a binary64 says that nothing is lost; it compiles to one conversion.
 pub(crate) fn whole(p: u32) -> i32
     requires { ⌜ ((z : ℤ) × Stands p z) ⌝ }
     ensures { λ r. ⌜ ((z : ℤ) → Stands p z → r ≡ z) ⌝ }
 {
     f32::from_bits(p) as f64 as i32
+}
+
+// The same of a pattern without a sign, which stands for a size.
+pub(crate) fn whole_size(p: u32) -> u32
+    requires { ⌜ ((n : ℕ) × Stands p (pos n)) ⌝ }
+    ensures { λ r. ⌜ ((n : ℕ) → Stands p (pos n) → r ≡ n) ⌝ }
+{
+    whole(p) as u32
 }
 
 // The sum of two patterns less that of 1, modulo 2^32: the logarithms add, and the sign bits add to the product's.
@@ -37,7 +53,7 @@ pub(crate) fn log_sum(p: u32, q: u32) -> u32
 }
 
 // p, or 0 where z is 0.
-fn unless_zero(z: i32, p: u32) -> u32
+pub(crate) fn unless_zero(z: i32, p: u32) -> u32
     ensures { λ r. ⌜ r ≡ maskedBy z p ⌝ }
 {
     if z == 0 {

@@ -1,10 +1,12 @@
-// Numbers less a power of two, which the exponent field of a pattern alone stands for.
+// Powers of two, which the exponent field of a pattern alone stands for, and numbers less such a power.
 ghost use mathlib.Core.Path.{_≡_};
 ghost use Prim.Native.Nat.{_^_, _≤_};
 ghost use lib.IntN.{natAbs};
-ghost use Rattle.patterns.specs.Patterns.{lessPower};
+ghost use Rattle.patterns.specs.Patterns.{fieldPower, lessPower};
 use crate::logs::pattern_of;
+use crate::logs::size_pattern;
 use crate::logs::whole;
+use crate::logs::whole_size;
 
 // The sign and the exponent field.
 const POWERS: u32 = 511 << 23;
@@ -25,4 +27,12 @@ pub(crate) fn offset(x: i16) -> i32
     ensures { λ r. ⌜ r ≡ lessPower (2 ^ 22) x ⌝ }
 {
     less_power(x as i32, HALF)
+}
+
+// The leading power of a size; 0 for 0.
+pub(crate) fn lead(n: u32) -> u32
+    requires { ⌜ n ≤ 2 ^ 15 ⌝ }
+    ensures { λ r. ⌜ r ≡ fieldPower 0 n ⌝ }
+{
+    whole_size(size_pattern(n) & POWERS)
 }

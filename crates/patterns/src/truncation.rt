@@ -4,12 +4,11 @@ ghost use mathlib.Core.Bool.{cond};
 ghost use Prim.Native.Nat.{_+_, _-_, _*_, _%_, _^_, _≤_};
 ghost use lib.Bits.{bitAnd};
 ghost use lib.Dec.{ltb};
-ghost use Rattle.patterns.specs.Patterns.{clamped, patternOf};
+ghost use Rattle.patterns.specs.Patterns.{clamped};
 use crate::logs::ONE;
-use crate::logs::pattern;
 
 // The place above the fraction field.
-const HIDDEN: u32 = 1 << 23;
+pub(crate) const HIDDEN: u32 = 1 << 23;
 
 // All but the sign.
 const SIZE: u32 = 0x7fff_ffff;
@@ -35,12 +34,12 @@ pub(crate) fn last_kept(t: u32) -> u32
     HIDDEN >> t
 }
 
-// The pattern of x without the bits of its fraction below the last kept one.
-pub(crate) fn kept_pattern(t: u32, x: i16) -> u32
+// A pattern without the bits of its fraction below the last kept one.
+pub(crate) fn cut(t: u32, p: u32) -> u32
     requires { ⌜ t ≤ 15 ⌝ }
-    ensures { λ r. ⌜ r ≡ bitAnd (patternOf x) (2 ^ 32 - 2 ^ (23 - t)) ⌝ }
+    ensures { λ r. ⌜ r ≡ bitAnd p (2 ^ 32 - 2 ^ (23 - t)) ⌝ }
 {
-    pattern(x) & (u32::MAX - last_kept(t) + 1)
+    p & (u32::MAX - last_kept(t) + 1)
 }
 
 // A sum of two such patterns, with 1 at the last kept bit where the number that it stands for is at least 2^t. Below 2^t nothing was cut,

@@ -7,7 +7,7 @@ ghost use Rattle.designs.specs.Signs.{signedProduct, withSign};
 ghost use Rattle.kernels.specs.Steps.{served};
 ghost use Rattle.products.specs.Signable.{Signable};
 
-// The product of two magnitudes; design 4 keeps at most 31 bits.
+// The product of two magnitudes; designs 4 and 5 keep at most 31 bits.
 pub(crate) fn product_of(design: u32, setting: u32, a: u32, b: u32) -> u64
     ensures { λ r. ⌜ r ≡ product (served (designOf design setting)) a b ⌝ }
 {
@@ -20,7 +20,10 @@ pub(crate) fn product_of(design: u32, setting: u32, a: u32, b: u32) -> u64
     if design == 3 {
         return kernels::staged(setting, a, b);
     }
-    kernels::truncated(setting, a, b)
+    if design == 4 {
+        return kernels::truncated(setting, a, b);
+    }
+    kernels::twice_truncated(setting, a, b)
 }
 
 // The signed product of two numbers of at most 32 bits, where it fits.

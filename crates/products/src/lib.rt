@@ -1,4 +1,4 @@
-// Products by the four designs, unsigned and signed (docs/SCOPE.md, "Product, unsigned or signed"). Both operations take any numbers
+// Products by the designs, unsigned and signed (docs/SCOPE.md, "Product, unsigned or signed"). Both operations take any numbers
 // and give the product or the number of the first refusal that applies.
 ghost use mathlib.Core.Path.{_≡_};
 ghost use Rattle.designs.specs.Products.{unsignedOutcome, signedOutcome};

@@ -12,7 +12,7 @@ pub fn is_design(design: u32) -> bool
     if design < 1 {
         return false;
     }
-    design <= 4
+    design <= 5
 }
 
 pub fn is_width(width: u32) -> bool

@@ -9,7 +9,7 @@ use mir.Val.{SFits}
 use Rattle.designs.specs.Designs.{Design, KeepsBit, product}
 use Rattle.designs.specs.Signs.{negative, signedProduct, residue}
 use Rattle.designs.proofs.Sizes.{size-sign}
-use Rattle.pairs.proofs.Integers.{true-size}
+use Rattle.pairs.proofs.Integers.{size16, true-size}
 use Rattle.patterns.proofs.Pair.{product-size, residue-size}
 
 -- the largest size of a product or a residue
@@ -25,7 +25,7 @@ pub bounds : (D : Design) (w x : ℤ) → KeepsBit D → SFits w16 w → SFits w
 unfolding signedProduct
 bounds D w x k hw hx =
     record {
-      product-size = rw (size-sign (unlike (negative w) (negative x)) (product D (natAbs w) (natAbs x))) (omega (arith, product-size D k hw hx));
+      product-size = rw (size-sign (unlike (negative w) (negative x)) (product D (natAbs w) (natAbs x))) (omega (arith, product-size D k w x (size16 hw) (size16 hx)));
       true-size = true-size hw hx;
-      residue-size = omega (arith, residue-size D k hw hx);
+      residue-size = omega (arith, residue-size D k w x (size16 hw) (size16 hx));
     }

@@ -72,7 +72,7 @@ module _ (design setting : ℕ) (ws fs before : List ℤ) where
     ready =
         let tests = none (rowRefusals design setting (length ws) (length fs) (length before)) tt (sym e ∙ z) in
         record {
-          kept = by-design design rowWidth setting (passed .0) (passed .1) (Keeps (λ t. clamped t ≡ t)) tt tt tt (λ h g. clamped-is setting h g);
+          kept = by-design design rowWidth setting (passed .0) (passed .1) (Keeps (λ t. clamped t ≡ t)) tt tt tt (λ h g. (clamped-is setting h g, clamped-is setting h g));
           lengths = eqb-true (length ws) (length fs) (not-false (eqb (length ws) (length fs)) (tests 2));
           pairs = ltb-false 4096 (length ws) (tests 3);
           places = ltb-false (length before) (length ws) (tests 4);
@@ -101,13 +101,13 @@ module _ (design setting : ℕ) (ws fs before : List ℤ) where
           same q p = cc
 
 -- no other number is that of a design
-pub unknown : (design setting : ℕ) {ws fs before : List ℤ} → (design ≡ 1 → ⊥) → (design ≡ 2 → ⊥) → (design ≡ 3 → ⊥) → (design ≡ 4 → ⊥) → Scoring design setting ws fs before before (S.Refused 1)
+pub unknown : (design setting : ℕ) {ws fs before : List ℤ} → (design ≡ 1 → ⊥) → (design ≡ 2 → ⊥) → (design ≡ 3 → ⊥) → (design ≡ 4 → ⊥) → (design ≡ 5 → ⊥) → Scoring design setting ws fs before before (S.Refused 1)
 unfolding rowRefusals first
-unknown design setting {ws} {fs} {before} a b c d = refuse design setting ws fs before first-of-all (λ (e : 1 ≡ 0). omega arith)
+unknown design setting {ws} {fs} {before} a b c d e = refuse design setting ws fs before first-of-all (λ (z : 1 ≡ 0). omega arith)
   where
     none-such : isDesign design ≡ false
     none-such =
-        either-lt 4 design (λ h. by-bool (λ (x : Bool). (x && leb design 4) ≡ false) (leb 1 design) (λ _. lt-leb design 4 h) (λ _. refl))
+        either-lt 5 design (λ h. by-bool (λ (x : Bool). (x && leb design 5) ≡ false) (leb 1 design) (λ _. lt-leb design 5 h) (λ _. refl))
         (λ h. let zero : design ≡ 0 = omega arith in rw zero refl)
 
     first-of-all : 1 ≡ first (rowRefusals design setting (length ws) (length fs) (length before))

@@ -1,6 +1,6 @@
 // Going over a row in blocks, a loop for each design that gains by it: first the residues of a block, by numbers of 32 bits alone and so
 // four pairs at a time, and then the sums, which are the same for every design.
-ghost use Rattle.designs.specs.Designs.{nearest, staged};
+ghost use Rattle.designs.specs.Designs.{nearest, staged, twiceTruncated};
 ghost use Rattle.rows.specs.Answers.{Ready};
 ghost use Rattle.rows.specs.Totals.{Complete};
 use crate::sums::Sums;
@@ -46,6 +46,30 @@ pub(crate) fn staged(stages: u32, weights: &[i16], frame: &[i16], residues: &mut
         let w = &weights[at..end];
         let x = &frame[at..end];
         blocks::staged_residues(stages, w, x, &mut block[..]);
+        sums = add(sums, weights, frame, at, end, &block[..], residues);
+        at = end;
+    }
+    sums
+}
+
+// By design 5.
+pub(crate) fn twice_truncated(
+    kept_bits: u32,
+    weights: &[i16],
+    frame: &[i16],
+    residues: &mut [i64],
+) -> Sums
+    requires { ⌜ Ready (twiceTruncated «kept_bits») (now weights) (now frame) (now residues) ⌝ }
+    ensures { λ r. ⌜ Complete (twiceTruncated «kept_bits») (now (weights .entry)) (now (frame .entry)) (now (residues .entry)) (now (residues .exit)) r ⌝ }
+{
+    let mut sums = no_sums();
+    let mut block = [UNSET; BLOCK];
+    let mut at = 0;
+    while at < weights.len() {
+        let end = at + pairs::fewer(weights.len() - at, BLOCK);
+        let w = &weights[at..end];
+        let x = &frame[at..end];
+        blocks::twice_truncated_residues(kept_bits, w, x, &mut block[..]);
         sums = add(sums, weights, frame, at, end, &block[..], residues);
         at = end;
     }

@@ -66,6 +66,9 @@ pub fn score_row(
     if design == 4 {
         return score_row_truncated(setting, weights, frame, residues);
     }
+    if design == 5 {
+        return score_row_twice_truncated(setting, weights, frame, residues);
+    }
     Scored::Refused(refusals::UNKNOWN_DESIGN)
 }
 
@@ -150,6 +153,31 @@ pub fn score_row_truncated(
     }
     Scored::Report(report_of(
         one_by_one::truncated(setting, weights, frame, residues),
+        weights.len(),
+    ))
+}
+
+// By design 5 alone; the setting is the number of bits that its first stage keeps.
+pub fn score_row_twice_truncated(
+    setting: u32,
+    weights: &[i16],
+    frame: &[i16],
+    residues: &mut [i64],
+) -> Scored
+    ensures { λ r. ⌜ Scoring 5 setting (now (weights .entry)) (now (frame .entry)) (now (residues .entry)) (now (residues .exit)) r ⌝ }
+{
+    let refusal = refusals::of_row(5, setting, weights.len(), frame.len(), residues.len());
+    if refusal != 0 {
+        return Scored::Refused(refusal);
+    }
+    if weights.len() < FEW {
+        return Scored::Report(report_of(
+            one_by_one::twice_truncated(setting, weights, frame, residues),
+            weights.len(),
+        ));
+    }
+    Scored::Report(report_of(
+        by_blocks::twice_truncated(setting, weights, frame, residues),
         weights.len(),
     ))
 }

@@ -15,10 +15,10 @@ use crate::row_vectors::count_at;
 use crate::row_vectors::is_due;
 use crate::tally::Tally;
 
-// In their order: the table's rows; that design 3 at width 8 takes 8 stages, and neither 0 nor 9; that width 8 takes −128, and which of
-// two operands it does not take, 128 signed or 256 unsigned, also beside a wrong setting; the limits of width 12, and the numbers beside it
-// that are no widths; the starred row; that 4,096 pairs are scored, and 4,097 not; that −20 over 2^3 is handed out as −2.5, and T 39 then as
-// 4.875; the singles.
+// In their order: the table's rows; that design 3 at width 8 takes 8 stages, and neither 0 nor 9; that design 5 there keeps 7 bits, and
+// neither 0 nor 8, and that 6 is no design; that width 8 takes −128, and which of two operands it does not take, 128 signed or 256 unsigned,
+// also beside a wrong setting; the limits of width 12, and the numbers beside it that are no widths; the starred row; that 4,096 pairs are
+// scored, and 4,097 not; that −20 over 2^3 is handed out as −2.5, and T 39 then as 4.875; the singles.
 pub fn run() -> Tally {
     lines::count(
         b"q 1 8 0 255 0 65024 1
@@ -32,6 +32,10 @@ q 4 12 11 3 0 8 1
 u 3 8 8 7 7 0 49
 u 3 8 0 7 7 3 0
 u 3 8 9 7 7 3 0
+u 5 8 7 7 7 0 48
+u 5 8 0 7 7 3 0
+u 5 8 8 7 7 3 0
+u 6 8 4 7 7 1 0
 s 1 8 0 -128 1 0 -128
 s 1 8 0 128 5 4 0
 s 1 8 0 5 128 20 0
@@ -49,6 +53,8 @@ u 3 12 13 7 7 3 0
 s 3 12 13 7 7 3 0
 u 4 12 12 7 7 3 0
 s 4 12 12 7 7 3 0
+u 5 12 12 7 7 3 0
+s 5 12 12 7 7 3 0
 u 1 12 0 4096 5 4 0
 u 1 12 0 5 4096 20 0
 s 1 12 0 2047 -2048 0 -4192256

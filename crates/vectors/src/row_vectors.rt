@@ -104,6 +104,9 @@ fn score_by_itself(
     if design == 4 {
         return rows::score_row_truncated(setting, weights, frame, residues);
     }
+    if design == 5 {
+        return rows::score_row_twice_truncated(setting, weights, frame, residues);
+    }
     rows::Scored::Refused(1)
 }
 

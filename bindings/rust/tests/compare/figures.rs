@@ -10,7 +10,7 @@ use crate::tally::Tally;
 /// Signed or not; design, width and setting; operands; product and residue.
 type Product = (bool, (u32, u32, u32), (i128, i128), (i128, i128));
 
-const PRODUCTS: [Product; 19] = [
+const PRODUCTS: [Product; 22] = [
     (false, (1, 8, 0), (3, 3), (8, 1)),
     (false, (1, 8, 0), (5, 6), (28, 2)),
     (false, (1, 8, 0), (192, 192), (32768, 4096)),
@@ -30,16 +30,27 @@ const PRODUCTS: [Product; 19] = [
     (false, (4, 8, 4), (255, 255), (63488, 1537)),
     (false, (4, 8, 1), (1, 1), (1, 0)),
     (false, (4, 12, 11), (3, 3), (8, 1)),
+    (false, (5, 8, 4), (3, 3), (8, 1)),
+    (false, (5, 8, 4), (5, 5), (26, -1)),
+    (false, (5, 8, 4), (7, 7), (50, -1)),
 ];
 
 /// Signed or not; design, width and setting; operands; outcome.
 type Judged = (bool, (u32, u32, u32), (i128, i128), Result<i128, u32>);
 
 /// Settings and operands at their limits.
-const JUDGED: [Judged; 30] = [
+const JUDGED: [Judged; 40] = [
     (false, (3, 8, 8), (7, 7), Ok(49)),
     (false, (3, 8, 0), (7, 7), Err(3)),
     (false, (3, 8, 9), (7, 7), Err(3)),
+    (false, (5, 8, 7), (7, 7), Ok(48)),
+    (false, (5, 8, 0), (7, 7), Err(3)),
+    (false, (5, 8, 8), (7, 7), Err(3)),
+    (false, (6, 8, 4), (7, 7), Err(1)),
+    (true, (5, 8, 7), (7, 7), Ok(48)),
+    (true, (5, 8, 0), (7, 7), Err(3)),
+    (true, (5, 8, 8), (7, 7), Err(3)),
+    (true, (6, 8, 4), (7, 7), Err(1)),
     (true, (1, 8, 0), (-128, 1), Ok(-128)),
     (true, (1, 8, 0), (128, 5), Err(4)),
     (true, (1, 8, 0), (5, 128), Err(20)),
@@ -57,6 +68,8 @@ const JUDGED: [Judged; 30] = [
     (true, (3, 12, 13), (7, 7), Err(3)),
     (false, (4, 12, 12), (7, 7), Err(3)),
     (true, (4, 12, 12), (7, 7), Err(3)),
+    (false, (5, 12, 12), (7, 7), Err(3)),
+    (true, (5, 12, 12), (7, 7), Err(3)),
     (false, (1, 12, 0), (4096, 5), Err(4)),
     (false, (1, 12, 0), (5, 4096), Err(20)),
     (true, (1, 12, 0), (2047, -2048), Ok(-4192256)),

@@ -28,13 +28,14 @@ use tally::Tally;
 /// What a part compares, how often it is run, each time with another seed, and the part itself.
 type Part = (&'static str, usize, fn(&mut Random, &mut Tally));
 
-const PARTS: [Part; 24] = [
+const PARTS: [Part; 25] = [
     ("figures of docs/SCOPE.md", 1, figures::all),
     ("products: all byte pairs, every design and setting, every width", 1, products::byte_pairs),
     ("products: all pairs at width 12, design 1", 1, products::twelve_bit_pairs::<1>),
     ("products: all pairs at width 12, design 2", 1, products::twelve_bit_pairs::<2>),
     ("products: all pairs at width 12, design 3 with 1, 2 and 12 stages", 1, products::twelve_bit_pairs::<3>),
     ("products: all pairs at width 12, design 4 with 1, 6 and 11 kept bits", 1, products::twelve_bit_pairs::<4>),
+    ("products: all pairs at width 12, design 5 with 1, 6 and 11 kept bits", 1, products::twelve_bit_pairs::<5>),
     ("products: every design, width and setting near the known ones", 1, products::numbers),
     ("products: seeded", 10, products::seeded),
     ("byte table: all pairs", 1, products::byte_table),

@@ -54,7 +54,7 @@ fn all_pairs(bits: u32, numbers: (u32, u32, u32), tally: &mut Tally) {
 /// All pairs of bytes by every design, with every setting that it takes, at every width.
 pub fn byte_pairs(_: &mut Random, tally: &mut Tally) {
     for width in products::WIDTHS {
-        for design in 1..=4 {
+        for design in designs::DESIGNS {
             for setting in (0..=width).filter(|&setting| products::takes(design, width, setting)) {
                 all_pairs(8, (design, width, setting), tally);
             }
@@ -66,7 +66,7 @@ pub fn byte_pairs(_: &mut Random, tally: &mut Tally) {
 pub fn twelve_bit_pairs<const DESIGN: u32>(_: &mut Random, tally: &mut Tally) {
     let settings: &[u32] = match DESIGN {
         3 => &[1, 2, 12],
-        4 => &[1, 6, 11],
+        4 | 5 => &[1, 6, 11],
         _ => &[0],
     };
     for &setting in settings {
@@ -79,7 +79,7 @@ pub fn twelve_bit_pairs<const DESIGN: u32>(_: &mut Random, tally: &mut Tally) {
 pub fn numbers(_: &mut Random, tally: &mut Tally) {
     let powers = products::WIDTHS.into_iter().flat_map(|width| [designs::power(width - 1), designs::power(width)]);
     let operands: Vec<_> = powers.flat_map(|power| [power - 1, power]).chain([0, 1, 3, i128::from(i64::MAX)]).collect();
-    for design in 0..=6 {
+    for design in 0..=7 {
         for width in 0..=66 {
             for setting in 0..=66 {
                 for &a in &operands {

@@ -1,6 +1,6 @@
 //! Inputs from a seeded generator: numbers where the designs change their ways, and any others.
 
-use crate::meaning::designs::power;
+use crate::meaning::designs::{DESIGNS, power};
 use crate::meaning::products::{WIDTHS, range};
 
 /// Splitmix64.
@@ -78,9 +78,9 @@ impl Random {
     /// A design's number, mostly a known one.
     pub fn design(&mut self) -> u32 {
         match self.below(16) {
-            0 => self.pick(&[0, 5, 6, 255, 256, 257, 1 << 16, (1 << 16) + 1, 1 << 31, u32::MAX]),
+            0 => self.pick(&[0, 6, 7, 255, 256, 257, 1 << 16, (1 << 16) + 1, 1 << 31, u32::MAX]),
             1 => self.wild_number(),
-            _ => self.below(4) as u32 + 1,
+            _ => self.below(u64::from(*DESIGNS.end())) as u32 + 1,
         }
     }
 

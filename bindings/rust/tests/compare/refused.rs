@@ -8,11 +8,12 @@ use crate::random::Random;
 use crate::singles::any_pattern;
 use crate::tally::Tally;
 
-const BY_ITSELF: [(&str, raw::RowByItself); 4] = [
+const BY_ITSELF: [(&str, raw::RowByItself); 5] = [
     ("design 1", raw::highvane_score_row_mitchell),
     ("design 2", raw::highvane_score_row_nearest),
     ("design 3", raw::highvane_score_row_staged),
     ("design 4", raw::highvane_score_row_truncated),
+    ("design 5", raw::highvane_score_row_twice_truncated),
 ];
 
 /// Compares what an answer has beside its refusal with zeros if it was refused.

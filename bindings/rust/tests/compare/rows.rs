@@ -1,9 +1,12 @@
 //! Rows of weights: the report, every place of the residue slice, and the third demand.
 
-use highvane::{Design, Refusal, score_row, score_row_mitchell, score_row_nearest, score_row_staged, score_row_truncated};
+use highvane::{
+    Design, Refusal, score_row, score_row_mitchell, score_row_nearest, score_row_staged, score_row_truncated,
+    score_row_twice_truncated,
+};
 
 use crate::meaning::rows::Report;
-use crate::meaning::{demand, products, rows};
+use crate::meaning::{demand, designs, products, rows};
 use crate::random::Random;
 use crate::tally::Tally;
 
@@ -20,7 +23,8 @@ fn widened(report: highvane::Report) -> Report {
 type ByItself = fn(u32, &[i16], &[i16], &mut [i64]) -> Result<highvane::Report, Refusal>;
 
 /// The rows of the designs by themselves, design 1 first.
-const BY_ITSELF: [ByItself; 4] = [score_row_mitchell, score_row_nearest, score_row_staged, score_row_truncated];
+const BY_ITSELF: [ByItself; 5] =
+    [score_row_mitchell, score_row_nearest, score_row_staged, score_row_truncated, score_row_twice_truncated];
 
 /// A row, and what its places hold before it is scored.
 struct Row<'a> {
@@ -83,7 +87,7 @@ fn compare(numbers: (u32, u32), weights: &[i16], frame: &[i16], places: usize, r
 
 /// Every design with every setting that a row takes.
 fn all_numbers() -> impl Iterator<Item = (u32, u32)> {
-    (1..=4).flat_map(|design| {
+    designs::DESIGNS.flat_map(|design| {
         (0..=16).filter(move |&setting| products::takes(design, 16, setting)).map(move |setting| (design, setting))
     })
 }
@@ -104,7 +108,7 @@ pub fn short(random: &mut Random, tally: &mut Tally) {
 /// Rows where the bound of designs 1 and 2 is met, and rows that miss it by one pair, by a sign or by an operand.
 pub fn at_the_bound(random: &mut Random, tally: &mut Tally) {
     for _ in 0..50_000 {
-        let numbers = random.pick(&[(1, 0), (2, 0), (3, 1), (4, 1), (4, 15)]);
+        let numbers = random.pick(&[(1, 0), (2, 0), (3, 1), (4, 1), (4, 15), (5, 1), (5, 15)]);
         let length = random.size(12);
         let mut weights: Vec<i16> = (0..length).map(|_| 3 << random.below(14)).collect();
         let mut frame: Vec<i16> = (0..length).map(|_| 3 << random.below(14)).collect();

@@ -1,4 +1,4 @@
--- A row by the design that is asked for is the row by that design, and where it is none of the four it is refused. Assumes nothing.
+-- A row by the design that is asked for is the row by that design, and where it is none of the five it is refused. Assumes nothing.
 use borrow.Author.Needs.{needs}
 use Rattle.rows.proofs.RowOutcome.{unknown}
 use Rattle.capi.proofs.RowAnswer.{laid-out}
@@ -18,9 +18,13 @@ returns-4 : tie.Need-returns-4
 returns-4 c = rw (c .before .before .before .if4 .taken) (c .before .highvane-score-row-truncated .ensures)
 
 returns-5 : tie.Need-returns-5
-returns-5 c =
-    let none = c .before in
-    laid-out _ (unknown _ _ (none .before .before .before .if1 .left) (none .before .before .if2 .left) (none .before .if3 .left) (none .if4 .left)) (c .laid .ensures)
+returns-5 c = rw (c .before .before .before .if5 .taken) (c .before .highvane-score-row-twice-truncated .ensures)
+
+returns-6 : tie.Need-returns-6
+returns-6 c =
+    let last = c .before in
+    let none = last .before in
+    laid-out _ (unknown _ _ (none .before .before .before .if1 .left) (none .before .before .if2 .left) (none .before .if3 .left) (none .if4 .left) (last .if5 .left)) (c .laid .ensures)
 
 pub highvane-score-row-spec : {M : Type 1} → statement M
 highvane-score-row-spec =
@@ -39,4 +43,7 @@ highvane-score-row-spec =
     (λ c. search needs)
     returns-4
     (λ c κs. search needs)
-    returns-5)
+    (λ c. search needs)
+    returns-5
+    (λ c κs. search needs)
+    returns-6)

@@ -9,7 +9,7 @@ use mir.Facts.{toZ-ofZ}
 use Rattle.designs.specs.Designs.{mitchell}
 use Rattle.designs.specs.Signs.{signedProduct}
 use Rattle.patterns.specs.Patterns.{Less, patternOf}
-use Rattle.pairs.proofs.Integers.{read-true}
+use Rattle.pairs.proofs.Integers.{read-true, size16}
 use Rattle.patterns.proofs.Pair.{residue-is}
 use Rattle.patterns.proofs.Mitchell.{mitchell-less}
 use Rattle.patterns.proofs.mitchell_residue.Statement.{statement}
@@ -28,7 +28,7 @@ module _ (c : tie.After-log-sum) where
   less : Less (toZ w32 (ofZ w32 (product .true-product .result))) (c .log-sum .result) (signedProduct mitchell (start .args .w) (start .args .x))
   less =
       rw truth
-      (mitchell-less (c .log-sum .result) (start .fits .w) (start .fits .x) (search needs)
+      (mitchell-less (start .args .w) (start .args .x) (c .log-sum .result) (size16 (start .fits .w)) (size16 (start .fits .x)) (search needs)
       (c .log-sum .ensures
       ∙ ap₂ (λ (p q : ℕ). (p + q) % 2 ^ 32) (c .before .before .pattern .ensures ∙ ap patternOf (toZ-ofZ (start .fits .w)))
       (c .before .pattern2 .ensures ∙ ap patternOf (toZ-ofZ (start .fits .x)))))

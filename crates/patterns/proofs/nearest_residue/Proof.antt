@@ -28,7 +28,7 @@ module _ (c : tie.After-offset2) where
       ∙ sym (nearest-is (start .args .w) (start .args .x) (size16 (start .fits .w)) (size16 (start .fits .x)))
 
   fits : SFits w32 (residue nearest (start .args .w) (start .args .x))
-  fits = residue-fits nearest tt (start .fits .w) (start .fits .x)
+  fits = residue-fits nearest tt (start .args .w) (start .args .x) (size16 (start .fits .w)) (size16 (start .fits .x))
 
 mul-result : tie.Need-mul-result
 mul-result c = fits-as (is c) (fits c)

@@ -11,7 +11,7 @@ use mir.Facts.{toZ-ofZ}
 use Rattle.designs.specs.Designs.{truncated}
 use Rattle.designs.specs.Signs.{residue, signedProduct}
 use Rattle.patterns.specs.Patterns.{Less, patternOf}
-use Rattle.pairs.proofs.Integers.{read-true}
+use Rattle.pairs.proofs.Integers.{read-true, size16}
 use Rattle.patterns.proofs.Pair.{residue-is}
 use Rattle.patterns.proofs.KeptPatterns.{truncated-less}
 use Rattle.patterns.proofs.truncated_residue.Statement.{statement}
@@ -19,7 +19,7 @@ use Rattle.patterns.proofs.truncated_residue.Tie as tie
 
 module _ (c : tie.After-with-carry) where
   abbrev product : tie.After-true-product
-  product = c .before .before .before .before
+  product = c .before .before .before .before .before .before
 
   abbrev start : tie.Start
   start = product .before .before
@@ -30,17 +30,18 @@ module _ (c : tie.After-with-carry) where
   truth : toZ w32 (ofZ w32 (product .true-product .result)) ≡ start .args .w *ℤ start .args .x
   truth = read-true (product .true-product .ok) (product .true-product .ensures) (start .fits .w) (start .fits .x)
 
-  abbrev cut : ℤ → ℕ
-  cut z = bitAnd (patternOf z) (2 ^ 32 - 2 ^ (23 - t))
-
   less : Less (toZ w32 (ofZ w32 (product .true-product .result))) (c .with-carry .result) (signedProduct (truncated t) (start .args .w) (start .args .x))
   less =
       rw truth
-      (truncated-less t (omega arith) (start .fits .w) (start .fits .x) (omega arith) (c .before .log-sum .result) (c .with-carry .result) (search needs)
+      (truncated-less t (omega arith) (start .args .w) (start .args .x) (size16 (start .fits .w)) (size16 (start .fits .x)) (omega arith) (c .before .log-sum .result) (c .with-carry .result) (search needs)
       (c .before .log-sum .ensures
-      ∙ ap₂ (λ (p q : ℕ). (p + q) % 2 ^ 32) (c .before .before .before .kept-pattern .ensures ∙ ap cut (toZ-ofZ (start .fits .w)))
-      (c .before .before .kept-pattern2 .ensures ∙ ap cut (toZ-ofZ (start .fits .x))))
+      ∙ ap₂ (λ (p q : ℕ). (p + q) % 2 ^ 32)
+      (c .before .before .before .before .cut .ensures ∙ ap mask (c .before .before .before .before .before .pattern .ensures ∙ ap patternOf (toZ-ofZ (start .fits .w))))
+      (c .before .before .cut2 .ensures ∙ ap mask (c .before .before .before .pattern2 .ensures ∙ ap patternOf (toZ-ofZ (start .fits .x)))))
       (c .with-carry .ensures))
+    where
+      mask : ℕ → ℕ
+      mask p = bitAnd p (2 ^ 32 - 2 ^ (23 - t))
 
 residue-by-requires : tie.Need-residue-by-requires
 residue-by-requires c κs = (_, less c)
@@ -55,6 +56,8 @@ pub truncated-residue-spec : {M : Type 1} → statement M
 truncated-residue-spec =
     tie.close
     (tie.spec
+    (λ c κs. search needs)
+    (λ c κs. search needs)
     (λ c κs. search needs)
     (λ c κs. search needs)
     (λ c κs. search needs)

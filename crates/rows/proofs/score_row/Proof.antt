@@ -1,4 +1,4 @@
--- A row by the design that is asked for is the row by that design, and where it is none of the four it is refused. Assumes nothing.
+-- A row by the design that is asked for is the row by that design, and where it is none of the five it is refused. Assumes nothing.
 use borrow.Author.Needs.{needs}
 use Rattle.rows.proofs.RowOutcome.{unknown}
 use Rattle.rows.proofs.score_row.Statement.{statement}
@@ -17,7 +17,12 @@ returns-4 : tie.Need-returns-4
 returns-4 c = rw (c .before .before .before .if4 .taken) (c .before .score-row-truncated .ensures)
 
 returns-5 : tie.Need-returns-5
-returns-5 c = unknown _ _ (c .before .before .before .if1 .left) (c .before .before .if2 .left) (c .before .if3 .left) (c .if4 .left)
+returns-5 c = rw (c .before .before .before .if5 .taken) (c .before .score-row-twice-truncated .ensures)
+
+returns-6 : tie.Need-returns-6
+returns-6 c =
+    let none = c .before in
+    unknown _ _ (none .before .before .before .if1 .left) (none .before .before .if2 .left) (none .before .if3 .left) (none .if4 .left) (c .if5 .left)
 
 pub score-row-spec : {M : Type 1} → statement M
 score-row-spec =
@@ -35,4 +40,7 @@ score-row-spec =
     (λ c κs. search needs)
     (λ c. search needs)
     returns-4
-    returns-5)
+    (λ c κs. search needs)
+    (λ c. search needs)
+    returns-5
+    returns-6)

@@ -1,12 +1,12 @@
-//! The third demand: what holds of the report of every row that is scored. Its bounds are those that
-//! docs/SCOPE.md has. Nine times the error's size is at most T in designs 1 and 2; 4^s times it is at most T in design 3; 9 × 2^t
-//! times it is at most (2^t + 18) × T + 9 × 2^t × n in design 4.
+//! The third demand: what holds of the report of every row that is scored. The error is the true sum less the score. Its bounds are
+//! those that docs/SCOPE.md has. Nine times the error's size is at most T in designs 1 and 2; 4^s times it is at most T in design 3;
+//! 9 × 2^t times it is at most (2^t + 18) × T + 9 × 2^t × n in design 4. Design 5 has no bound.
 
 use super::designs::{parts, power};
 use super::rows::Report;
 
-/// Whether the error is within the design's bound, which designs 1 and 2 meet exactly when `meets` says so, and no sum reaches
-/// 2^43 in size.
+/// Whether the error is exact and within the design's bound, which designs 1 and 2 meet exactly when `meets` says so, and no sum
+/// reaches 2^43 in size.
 pub fn holds((design, setting): (u32, u32), weights: &[i16], frame: &[i16], report: &Report) -> bool {
     let error = report.error.abs();
     let (magnitude_sum, pairs) = (report.magnitude_sum, report.nonzero_pairs);
@@ -17,10 +17,12 @@ pub fn holds((design, setting): (u32, u32), weights: &[i16], frame: &[i16], repo
             let whole = power(setting);
             9 * whole * error <= (whole + 18) * magnitude_sum + 9 * whole * pairs
         }
+        5 => true,
         _ => false,
     };
+    let exact = report.error == report.true_sum - report.score;
     let sums = [report.score.abs(), report.true_sum.abs(), error, magnitude_sum];
-    bounded && sums.iter().all(|&sum| sum < power(43))
+    exact && bounded && sums.iter().all(|&sum| sum < power(43))
 }
 
 /// Whether the error of the row has to be a ninth of T: the size of each operand is three times a power of two, and no two true

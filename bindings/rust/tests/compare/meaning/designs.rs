@@ -1,4 +1,9 @@
-//! The four designs on magnitudes.
+//! The designs on magnitudes.
+
+use std::ops::RangeInclusive;
+
+/// The numbers of the designs.
+pub const DESIGNS: RangeInclusive<u32> = 1..=5;
 
 /// 2^k.
 pub fn power(k: u32) -> i128 {
@@ -21,6 +26,7 @@ pub fn product(design: u32, setting: u32, x: i128, y: i128) -> i128 {
         2 => nearest_power(x, y),
         3 => staged(x, y, setting),
         4 => truncated(x, y, setting),
+        5 => twice_truncated(x, y, setting),
         _ => panic!("design {design} has no product"),
     }
 }
@@ -55,11 +61,23 @@ fn staged(mut x: i128, mut y: i128, stages: u32) -> i128 {
     sum
 }
 
+/// S: both fractions, shifted and cut to the kept bits, added with a carry-in of 1.
+fn kept_sum(x: i128, y: i128, kept_bits: u32) -> i128 {
+    let cut = |(k, a): (u32, i128)| (a << kept_bits) >> k;
+    cut(parts(x)) + cut(parts(y)) + 1
+}
+
 fn truncated(x: i128, y: i128, kept_bits: u32) -> i128 {
-    let ((k, a), (m, b)) = (parts(x), parts(y));
-    let whole = power(kept_bits);
-    let sum = a * whole / power(k) + b * whole / power(m) + 1;
+    let (k, m) = (parts(x).0, parts(y).0);
+    let (whole, sum) = (power(kept_bits), kept_sum(x, y, kept_bits));
     if sum < whole { power(k + m) * (whole + sum) / whole } else { power(k + m + 1) * sum / whole }
+}
+
+/// Design 4, and design 4 with two bits on the error terms: the bits below each leading one, or their ones' complement where S carries out of its kept bits.
+fn twice_truncated(x: i128, y: i128, kept_bits: u32) -> i128 {
+    let range = kept_sum(x, y, kept_bits) >> kept_bits;
+    let error_term = |(k, a): (u32, i128)| a ^ (range * (power(k) - 1));
+    truncated(x, y, kept_bits) + product(4, 2, error_term(parts(x)), error_term(parts(y)))
 }
 
 /// The residue of two nonzero magnitudes where the document states it by itself, which is in designs 1 and 2.

@@ -10,7 +10,7 @@ pub fn takes(design: u32, width: u32, setting: u32) -> bool {
     match design {
         1 | 2 => setting == 0,
         3 => 1 <= setting && setting <= width,
-        4 => 1 <= setting && setting < width,
+        4 | 5 => 1 <= setting && setting < width,
         _ => panic!("design {design} has no settings"),
     }
 }
@@ -28,7 +28,7 @@ pub fn signed_product(design: u32, setting: u32, a: i128, b: i128) -> i128 {
 
 /// The outcome of a product. An unsigned operand is its own size, so one rule serves both.
 pub fn outcome(signed: bool, (design, width, setting): (u32, u32, u32), (a, b): (i128, i128)) -> Result<i128, u32> {
-    if !(1..=4).contains(&design) {
+    if !designs::DESIGNS.contains(&design) {
         return Err(1);
     }
     if !WIDTHS.contains(&width) {

@@ -1,6 +1,6 @@
 //! Scoring a row.
 
-use super::products;
+use super::{designs, products};
 
 /// The report of a row.
 #[derive(Clone, Copy, Debug, Default, PartialEq)]
@@ -14,7 +14,7 @@ pub struct Report {
 
 /// The report, and the residue of each pair.
 pub fn outcome(numbers: (u32, u32), weights: &[i16], frame: &[i16], places: usize) -> Result<(Report, Vec<i128>), u32> {
-    if !(1..=4).contains(&numbers.0) {
+    if !designs::DESIGNS.contains(&numbers.0) {
         return Err(1);
     }
     by_itself(numbers, weights, frame, places)
