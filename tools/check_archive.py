@@ -29,7 +29,7 @@ ALLOWED = {
     'capi::highvane_score_row_nearest': 12,
     'capi::highvane_score_row_staged': 11,
     'highvane_score_row_truncated': 3,
-    'highvane_score_row_twice_truncated': 3,
+    'capi::highvane_score_row_twice_truncated': 8,
     'transcripts::writers::put_number': 1,
 }
 # the rows, in which loops are looked at; what makes a loop one of vectors, and the kernel's
@@ -41,7 +41,7 @@ BY_REGISTER = re.compile(r'%cl,')
 # sections that a program writes, or that run before it; and constants, with how many bytes they may have
 DATA = re.compile(r'\.(data|bss|tdata|tbss|init_array|fini_array)\b')
 CONSTANTS = re.compile(r'\.rodata\b')
-CONSTANT_BYTES = 512 + 24 + 20 + 196
+CONSTANT_BYTES = 512 + 24 + 20 + 372
 # an operand below the stack pointer, and how many bytes below it anything may lie
 BELOW_STACK = re.compile(r'-0x([0-9a-f]+)\(%rsp')
 RED_ZONE = 128

@@ -2,7 +2,7 @@
 -- number; half of the field's last place, added before, makes it the nearest power, since it carries from one half up. Assumes nothing.
 use mathlib.Core.Path.{_≡_, refl, ap, _∙_}
 use Prim.Native.Nat.{ℕ, zero, suc, _+_, _-_, _*_, _/_, _%_, _^_, _≤_, _<_}
-use native.Mathlib.Nat.{mul-le-mul-left}
+use native.Mathlib.Nat.{add-zero, mul-le-mul-left}
 use native.Mathlib.Omega.{arith}
 use mathlib.Core.Bool.{Bool, true, false}
 use lib.Bits.{bitAnd, and-high}
@@ -90,6 +90,9 @@ module _ (A : ℕ) (l : A ≤ 2 ^ 15) where
   whole-part : (code 23 A + 0) / 2 ^ 23 ≡ log2 A
   unfolding code
   whole-part = omega (arith, f-lt)
+
+  pub field-at : bitAnd (logPattern false (code 23 A)) (2 ^ 32 - 2 ^ 23) ≡ (127 + log2 A) * 2 ^ 23
+  field-at = (rw add-zero at (field false (code 23 A) 0 (omega (arith, code-lt 23 A (omega arith))))) ∙ omega (arith, ap (λ (k : ℕ). k * 2 ^ 23) whole-part)
 
   rounded : (code 23 A + 2 ^ 22) / 2 ^ 23 ≡ nearPower A
   unfolding code nearPower

@@ -24,25 +24,20 @@ use Rattle.designs.proofs.Widths.{power-kept, power-rest}
 use Rattle.designs.proofs.Zeros.{product-is, zero-left, zero-right}
 use Rattle.pairs.proofs.Counting.{both}
 use Rattle.patterns.specs.Patterns.{fieldPower, isLow, logPattern, maskedBy, patternOf, Stands}
-use Rattle.patterns.proofs.ExponentField.{lead-at}
+use Rattle.patterns.proofs.ExponentField.{field-at, lead-at}
 use Rattle.patterns.proofs.KeptPatterns.{code-small, cut-at}
 use Rattle.patterns.proofs.Pair.{log-sum}
 use Rattle.patterns.proofs.Values.{nothing, stands}
 
--- the fraction field of a cut pattern
-pub fraction-is : (t A : ℕ) → t ≤ 15 → A ≤ 2 ^ 15 → bitAnd (bitAnd (patternOf (pos A)) (2 ^ 32 - 2 ^ (23 - t))) (2 ^ 23 - 1) ≡ kept t A * 2 ^ (23 - t)
+-- a cut pattern less its exponent field
+fraction-at : (t A : ℕ) → t ≤ 15 → A ≤ 2 ^ 15 → bitAnd (patternOf (pos A)) (2 ^ 32 - 2 ^ (23 - t)) ≡ bitAnd (patternOf (pos A)) (2 ^ 32 - 2 ^ 23) + kept t A * 2 ^ (23 - t)
 unfolding keptCode patternOf
-fraction-is t zero ht l =
-    ap (λ (q : ℕ). bitAnd q (2 ^ 23 - 1)) (and-zero-l (2 ^ 32 - 2 ^ (23 - t))) ∙ and-zero-l (2 ^ 23 - 1) ∙ omega (arith, ap (λ (x : ℕ). x * 2 ^ (23 - t)) (kept-none t 0 rest-zero))
-fraction-is t (suc n) ht l =
-    ap (λ (q : ℕ). bitAnd q (2 ^ 23 - 1)) (cut-at t ht (pos A) (omega arith) l) ∙ and-mask (logPattern false (keptCode 23 t A)) 23
-    ∙ ap (λ (x : ℕ). x % 2 ^ 23) (omega arith) ∙ digits-mod (127 + log2 A) small
-  where
-    A : ℕ
-    A = suc n
+fraction-at t zero ht l =
+    and-zero-l (2 ^ 32 - 2 ^ (23 - t)) ∙ omega (arith, and-zero-l (2 ^ 32 - 2 ^ 23), ap (λ (x : ℕ). x * 2 ^ (23 - t)) (kept-none t 0 rest-zero))
+fraction-at t (suc n) ht l = cut-at t ht (pos (suc n)) (omega arith) l ∙ omega (arith, field-at (suc n) l)
 
-    small : kept t A * 2 ^ (23 - t) < 2 ^ 23
-    small = omega (arith, up-to 23 t (omega arith), mul-le-mul-right (2 ^ (23 - t)) (kept-lt t A), pow-pos (23 - t))
+pub fraction-is : (t A p : ℕ) → t ≤ 15 → A ≤ 2 ^ 15 → p ≡ patternOf (pos A) → bitAnd p (2 ^ 32 - 2 ^ (23 - t)) ≡ bitAnd p (2 ^ 32 - 2 ^ 23) + kept t A * 2 ^ (23 - t)
+fraction-is t A p ht l e = rw e (fraction-at t A ht l)
 
 -- the bits below the leading one, and the same turned
 module _ (A : ℕ) (p : 0 < A) where

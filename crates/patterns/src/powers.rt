@@ -9,7 +9,7 @@ use crate::logs::whole;
 use crate::logs::whole_size;
 
 // The sign and the exponent field.
-const POWERS: u32 = 511 << 23;
+pub(crate) const POWERS: u32 = 511 << 23;
 
 // Half of the lowest exponent's place.
 const HALF: u32 = 1 << 22;

@@ -8,14 +8,12 @@ use crate::logs::log_sum;
 use crate::logs::size_pattern;
 use crate::logs::unless_zero;
 use crate::logs::whole_size;
+use crate::powers::POWERS;
 use crate::powers::lead;
 use crate::truncation::HIDDEN;
 use crate::truncation::cut;
 use crate::truncation::last_kept;
 use crate::truncation::with_carry;
-
-// The fraction field.
-const FRACTION: u32 = HIDDEN - 1;
 
 // The second stage keeps two bits. Its carry stands at the last of them, and its sum is read two places higher, so that it is whole.
 const TWO: u32 = 2;
@@ -49,7 +47,8 @@ fn fraction(t: u32, x: u32) -> u32
     requires { ⌜ (t ≤ 15) × (x ≤ 2 ^ 15) ⌝ }
     ensures { λ r. ⌜ r ≡ kept t x * 2 ^ (23 - t) ⌝ }
 {
-    cut(t, size_pattern(x)) & FRACTION
+    let p = size_pattern(x);
+    cut(t, p) - (p & POWERS)
 }
 
 // What the first stage leaves of x: the bits below its leading one, or what these bits lack of all ones.

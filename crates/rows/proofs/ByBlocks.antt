@@ -1,6 +1,6 @@
 -- A row that goes by blocks, by any design. A block takes a part of the row, whose place k is place at + k of the row; so a block that is
 -- filled for the part holds the residues of the row's pairs, and can be added. Assumes nothing.
-use mathlib.Core.Path.{_≡_, ap₂, _∙_}
+use mathlib.Core.Path.{_≡_, refl, ap, ap₂, _∙_}
 use Prim.Native.Nat.{ℕ, min, _+_, _-_, _/_, _≤_, _<_}
 use native.Mathlib.Omega.{arith}
 use mathlib.Core.List.{List}
@@ -61,9 +61,15 @@ module _ {D : Design} {ws fs before after : List ℤ} {at n : ℕ} {s : Sums} (r
         filled = λ k h. holds k h ∙ ap₂ (residue D) (part-at ws at end in-row k h) (part-at fs at end in-frame k h);
       }
 
+  -- filled by a design that has another name too
+  pub filled-as : {E : Design} → E ≡ D → {block block' : List ℤ} → length block ≡ 32 → Filled E (part ws at end) (part fs at end) block block' → NextBlock D ws fs before after at s n block'
+  filled-as same room by =
+      addable (omega (arith, by .size))
+      (λ k h. by .first k (omega (arith, part-length ws at end in-row, part-length fs at end in-frame))
+      ∙ ap (λ (X : Design). ofPair (residue X) (part ws at end) (part fs at end) k) same)
+
   pub filled : {block block' : List ℤ} → length block ≡ 32 → Filled D (part ws at end) (part fs at end) block block' → NextBlock D ws fs before after at s n block'
-  filled room by =
-      addable (omega (arith, by .size)) (λ k h. by .first k (omega (arith, part-length ws at end in-row, part-length fs at end in-frame)))
+  filled = filled-as refl
 
   pub on : {after : List ℤ} {s : Sums} → Reached (ofPair (residue D) ws fs) ws fs before after end s → Going D ws fs before after end s
   on reached = record { inside = in-row; reached = reached }

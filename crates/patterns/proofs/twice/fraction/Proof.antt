@@ -1,18 +1,20 @@
--- The fraction field of the cut pattern. Assumes nothing.
+-- The cut pattern less its exponent field. Assumes nothing.
 use borrow.Author.Needs.{needs}
-use mathlib.Core.Path.{ap, _∙_}
-use Prim.Native.Nat.{ℕ, _-_, _^_}
+use mathlib.Core.Path.{_≡_, ap, _∙_}
+use Prim.Native.Nat.{ℕ, _+_, _-_, _*_, _^_}
 use native.Mathlib.Omega.{arith}
 use lib.Bits.{bitAnd}
+use Rattle.designs.specs.Designs.{kept}
 use Rattle.patterns.proofs.SecondStage.{fraction-is}
 use Rattle.patterns.proofs.twice.fraction.Statement.{statement}
 use Rattle.patterns.proofs.twice.fraction.Tie as tie
 
-returns : tie.Need-returns
-returns c =
-    let s = c .before .before in
-    ap (λ (p : ℕ). bitAnd p (2 ^ 23 - 1)) (c .cut .ensures ∙ ap (λ (p : ℕ). bitAnd p (2 ^ 32 - 2 ^ (23 - s .args .t))) (c .before .size-pattern .ensures))
-    ∙ fraction-is (s .args .t) (s .args .x) (s .pre .0) (s .pre .1)
+module _ (c : tie.After-cut) where
+  abbrev start : tie.Start
+  start = c .before .before
+
+  is : c .cut .result ≡ bitAnd (c .before .size-pattern .result) (2 ^ 32 - 2 ^ 23) + kept (start .args .t) (start .args .x) * 2 ^ (23 - start .args .t)
+  is = c .cut .ensures ∙ fraction-is (start .args .t) (start .args .x) _ (start .pre .0) (start .pre .1) (c .before .size-pattern .ensures)
 
 pub fraction-spec : {M : Type 1} → statement M
-fraction-spec = tie.close (tie.spec (λ c κs. search needs) (λ c κs. search needs) returns)
+fraction-spec = tie.close (tie.spec (λ c κs. search needs) (λ c κs. search needs) (λ c. omega (arith, is c)) (λ c. omega (arith, is c)))

@@ -1,11 +1,11 @@
 -- Each turn fills a block, and `add` takes what was reached as far as the block goes. Assumes nothing.
 use borrow.Author.Needs.{needs}
-use mathlib.Core.Path.{_≡_, refl, _∙_}
+use mathlib.Core.Path.{_≡_, refl, ap, _∙_}
 use Prim.Native.Nat.{_-_}
 use lib.ListN.{length}
 use Rattle.designs.specs.Designs.{twiceTruncated}
 use Rattle.rows.proofs.OneByOne.{begun, Going, gone}
-use Rattle.rows.proofs.ByBlocks.{fewer-left, filled, NextBlock, on}
+use Rattle.rows.proofs.ByBlocks.{fewer-left, filled-as, NextBlock, on}
 use Rattle.rows.proofs.by_blocks.twice_truncated.Statement.{statement}
 use Rattle.rows.proofs.by_blocks.twice_truncated.Tie as tie
 
@@ -28,7 +28,7 @@ module _ (c : tie.After-twice-truncated-residues Inv-loop μ-loop) where
 
   next : let a = start .args in
       NextBlock (twiceTruncated (a .kept-bits)) (a .weights .now) (a .frame .now) (a .residues .now) (at .loop .residues) (at .loop .at) (at .loop .sums) (counted .fewer .result) (c .twice-truncated-residues .last .1 .1 .1 .0)
-  next = filled (start .pre) (at .loop .inv .1) (counted .fewer .ensures) (at .loop .inv .0) (rw (start .pre .kept) at (c .twice-truncated-residues .ensures))
+  next = filled-as (start .pre) (at .loop .inv .1) (counted .fewer .ensures) (ap twiceTruncated (start .pre .kept)) (at .loop .inv .0) (c .twice-truncated-residues .ensures)
 
 loop-again : tie.Need-loop-again Inv-loop μ-loop
 loop-again c =
