@@ -29,6 +29,8 @@ PRODUCTS = (
     (ProductInput(UNSIGNED, 5, 8, 4, 3, 3), 8, 1),
     (ProductInput(UNSIGNED, 5, 8, 4, 5, 5), 26, -1),
     (ProductInput(UNSIGNED, 5, 8, 4, 7, 7), 50, -1),
+    (ProductInput(UNSIGNED, 5, 8, 4, 4, 5), 21, -1),
+    (ProductInput(UNSIGNED, 5, 8, 4, 5, 27), 138, -3),
 )
 
 # The sentences below that table on settings and operands: the input and its refusal.

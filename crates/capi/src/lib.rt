@@ -132,8 +132,8 @@ pub extern "C" fn highvane_score_row_mitchell(
     laid(rows::score_row_mitchell(setting, weights, frame, residues))
 }
 
-// The next two give a slice on as `[..]`, which is all of it: so it reaches the row in registers. Their rows are too long to be compiled into
-// them, and a slice given on as it came would go through memory.
+// The rows of designs 2, 3 and 5 are too long to be compiled into their callers. A slice is given on to them as `[..]`, which is all of it,
+// so that it reaches them in registers: given on as it came, it would go through memory.
 #[no_mangle]
 pub extern "C" fn highvane_score_row_nearest(
     setting: u32,

@@ -1,6 +1,6 @@
 -- The third demand holds of every report. Each design bounds the residue of one pair by c × |residue| ≤ d × |product| + e × [no zero],
--- `RowSums.sum-bound` carries that to the row at once for all designs, and a row of one pair is that pair. Design 5 promises no fraction, so its
--- coefficients are 0. Assumes nothing.
+-- `RowSums.sum-bound` carries that to the row at once for all designs, and a row of one pair is that pair. Design 5 promises no
+-- fraction, so its coefficients are 0. Assumes nothing.
 use mathlib.Core.Path.{_≡_, refl, sym, ap, ap₂, _∙_, subst, subst₂}
 use Prim.Native.Nat.{ℕ, zero, suc, _+_, _*_, _^_, _≤_, _<_}
 use native.Mathlib.Omega.{arith}

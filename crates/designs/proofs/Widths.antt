@@ -1,7 +1,7 @@
 -- A product of u-bit and v-bit magnitudes has at most u + v bits, in every design and setting: designs 1 and 3 fall short of the
 -- true product, design 2 of a product of powers or of the true one, and designs 4 and 5 of 4 × 2^(k+m). Assumes nothing.
-use mathlib.Core.Path.{_≡_, ap, _∙_, subst}
-use Prim.Native.Nat.{ℕ, _+_, _*_, _/_, _^_, _≤_, _<_}
+use mathlib.Core.Path.{_≡_, ap, subst}
+use Prim.Native.Nat.{ℕ, _+_, _*_, _^_, _≤_, _<_}
 use native.Mathlib.Nat.{mul-le-mul, mul-le-mul-left, mul-le-mul-right, div-lt-iff-lt-mul, mul-pos, le-antisymm}
 use native.Mathlib.Omega.{arith}
 use borrow.Author.Tests.{lt-ltb}

@@ -52,6 +52,8 @@ figures =
     ∷ (unsigned 5 4 8 3 3, natural (accepted 8) (pos 1))
     ∷ (unsigned 5 4 8 5 5, natural (accepted 26) (− 1))
     ∷ (unsigned 5 4 8 7 7, natural (accepted 50) (− 1))
+    ∷ (unsigned 5 4 8 4 5, natural (accepted 21) (− 1))
+    ∷ (unsigned 5 4 8 5 27, natural (accepted 138) (− 3))
     ∷ (row 1 0 (pos 3 ∷ − 5 ∷ pos 0 ∷ []) (pos 3 ∷ pos 6 ∷ pos 7 ∷ []), scored starredRow (pos 1 ∷ − 2 ∷ pos 0 ∷ []))
     ∷ []
 
@@ -78,6 +80,7 @@ unsignedJudged =
     ∷ (unsignedOutcome 3 12 13 4095 4095, refused 3)
     ∷ (unsignedOutcome 4 12 11 3 3, accepted 8)
     ∷ (unsignedOutcome 4 12 12 3 3, refused 3)
+    ∷ (unsignedOutcome 5 8 7 7 7, accepted 48)
     ∷ (unsignedOutcome 5 12 11 3 3, accepted 8)
     ∷ (unsignedOutcome 5 12 12 3 3, refused 3)
     ∷ (unsignedOutcome 5 32 31 4294967295 4294967295, accepted 18446744069414584320)

@@ -1,5 +1,5 @@
-// A pair of 16-bit numbers, a weight and a number of a frame: its true product, the size of that and of each number, and whether it holds a zero. No branch of
-// the compiled code depends on the numbers. And how many pairs there are, by the lengths of their slices.
+// A pair of 16-bit numbers, a weight and a number of a frame: its true product, the size of that and of each number, and whether it holds a
+// zero. No branch of the compiled code depends on the numbers. And how many pairs there are, by the lengths of their slices.
 ghost use mathlib.Core.Path.{_≡_};
 ghost use Prim.Native.Nat.{min, _-_, _^_, _<_};
 ghost use lib.IntN.{natAbs, _*ℤ_};

@@ -1,28 +1,26 @@
--- Design 5 by patterns of sizes. The fraction fields of the cut patterns say whether S < 2^t; what the first stage leaves of a number are its
--- low bits, or these turned; and the second stage, read two places higher, is a whole number. It has 31 bits: what is left of a number has
--- a leading power below the number's own, and of two numbers of 2^15 nothing is left. Assumes nothing.
+-- Design 5 by patterns of sizes. The cut patterns less their exponent fields say whether S < 2^t; what the first stage leaves of a number
+-- are its low bits, or these turned; and the second stage, read two places higher, is a whole number. It has 31 bits: what is left of a
+-- number has a leading power below the number's own, and of two numbers of 2^15 nothing is left. Assumes nothing.
 use mathlib.Core.Path.{_≡_, refl, sym, ap, ap₂, _∙_}
 use Prim.Native.Nat.{ℕ, zero, suc, _+_, _-_, _*_, _/_, _%_, _^_, _≤_, _<_}
-use native.Mathlib.Nat.{le-antisymm, mul-le-mul-left, mul-le-mul-right, sub-add-cancel}
+use native.Mathlib.Nat.{le-antisymm, mul-le-mul-left, sub-add-cancel}
 use native.Mathlib.Omega.{arith}
 use mathlib.Core.Bool.{Bool, true, false, false≢true}
 use borrow.Author.Tests.{eq-eqb, ne-eqb, lt-ltb}
 use lib.Arith.{digits-mod}
 use lib.Bits.{bitAnd, and-mask, and-zero-l}
 use lib.IntN.{pos}
-use lib.Pow.{pow-add, pow-mono, pow-pos}
-use Rattle.designs.specs.Codes.{scaledProduct}
+use lib.Pow.{pow-mono, pow-pos}
 use Rattle.designs.specs.Designs.{formula, kept, leftOver, log2, product, rest, total, totalBelow, truncated, twiceTruncated}
 use Rattle.designs.proofs.Carried.{carried, carried-lt}
 use Rattle.designs.proofs.Cases.{either-lt}
 use Rattle.designs.proofs.Codes.{log2-le-bits}
 use Rattle.designs.proofs.KeptCodes.{kept-raised, keptCode}
 use Rattle.designs.proofs.Parts.{log2-below, log2-le, parts, rest-lt, rest-zero, up-to}
-use Rattle.designs.proofs.Truncated.{kept-lt, kept-none, total-lt, truncation-at}
+use Rattle.designs.proofs.Truncated.{kept-none, total-lt, truncation-at}
 use Rattle.designs.proofs.TwiceTruncated.{twice-is}
 use Rattle.designs.proofs.Widths.{power-kept, power-rest}
 use Rattle.designs.proofs.Zeros.{product-is, zero-left, zero-right}
-use Rattle.pairs.proofs.Counting.{both}
 use Rattle.patterns.specs.Patterns.{fieldPower, isLow, logPattern, maskedBy, patternOf, Stands}
 use Rattle.patterns.proofs.ExponentField.{field-at, lead-at}
 use Rattle.patterns.proofs.KeptPatterns.{code-small, cut-at}

@@ -29,8 +29,8 @@ pub(crate) fn first_stage(t: u32, z: i32, a: u32, b: u32) -> u32
     whole_size(unless_zero(z, with_carry(t, sum)))
 }
 
-// Whether the kept fractions and the carry stay below 1. Where a number is 0 it is taken to be so, and nothing is left of that number. The sum
-// stands before the test, so that the compiler makes no branch of it.
+// Whether the kept fractions and the carry stay below 1. Where a number is 0 it is taken to be so, and nothing is left of that number. The
+// sum stands before the test, so that the compiler makes no branch of it.
 pub(crate) fn is_low(t: u32, z: i32, a: u32, b: u32) -> bool
     requires { ⌜ Sizes t z a b ⌝ }
     ensures { λ r. ⌜ r ≡ isLow t a b ⌝ }

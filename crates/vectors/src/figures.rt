@@ -16,9 +16,9 @@ use crate::row_vectors::is_due;
 use crate::tally::Tally;
 
 // In their order: the table's rows; that design 3 at width 8 takes 8 stages, and neither 0 nor 9; that design 5 there keeps 7 bits, and
-// neither 0 nor 8, and that 6 is no design; that width 8 takes −128, and which of two operands it does not take, 128 signed or 256 unsigned,
-// also beside a wrong setting; the limits of width 12, and the numbers beside it that are no widths; the starred row; that 4,096 pairs are
-// scored, and 4,097 not; that −20 over 2^3 is handed out as −2.5, and T 39 then as 4.875; the singles.
+// neither 0 nor 8, and that 6 is no design; that width 8 takes −128, and which of two operands it does not take, 128 signed or 256
+// unsigned, also beside a wrong setting; the limits of width 12, and the numbers beside it that are no widths; the starred row; that 4,096
+// pairs are scored, and 4,097 not; that −20 over 2^3 is handed out as −2.5, and T 39 then as 4.875; the singles.
 pub fn run() -> Tally {
     lines::count(
         b"q 1 8 0 255 0 65024 1

@@ -10,7 +10,7 @@ use crate::tally::Tally;
 /// Signed or not; design, width and setting; operands; product and residue.
 type Product = (bool, (u32, u32, u32), (i128, i128), (i128, i128));
 
-const PRODUCTS: [Product; 22] = [
+const PRODUCTS: [Product; 24] = [
     (false, (1, 8, 0), (3, 3), (8, 1)),
     (false, (1, 8, 0), (5, 6), (28, 2)),
     (false, (1, 8, 0), (192, 192), (32768, 4096)),
@@ -33,6 +33,8 @@ const PRODUCTS: [Product; 22] = [
     (false, (5, 8, 4), (3, 3), (8, 1)),
     (false, (5, 8, 4), (5, 5), (26, -1)),
     (false, (5, 8, 4), (7, 7), (50, -1)),
+    (false, (5, 8, 4), (4, 5), (21, -1)),
+    (false, (5, 8, 4), (5, 27), (138, -3)),
 ];
 
 /// Signed or not; design, width and setting; operands; outcome.

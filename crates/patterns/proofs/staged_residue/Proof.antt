@@ -1,7 +1,7 @@
 -- The kernel's product is taken off with the true product's sign. Assumes nothing.
 use borrow.Author.Needs.{needs}
 use mathlib.Core.Path.{_≡_, ap, ap₂, _∙_}
-use Prim.Native.Nat.{ℕ, _^_, _<_}
+use Prim.Native.Nat.{_^_, _<_}
 use native.Mathlib.Omega.{arith}
 use lib.IntN.{natAbs, _*ℤ_}
 use mir.Syntax.{w32}

@@ -73,7 +73,8 @@ fn truncated(x: i128, y: i128, kept_bits: u32) -> i128 {
     if sum < whole { power(k + m) * (whole + sum) / whole } else { power(k + m + 1) * sum / whole }
 }
 
-/// Design 4, and design 4 with two bits on the error terms: the bits below each leading one, or their ones' complement where S carries out of its kept bits.
+/// Design 4, and design 4 with two bits on the error terms: the bits below each leading one, or their ones' complement where S carries
+/// out of its kept bits.
 fn twice_truncated(x: i128, y: i128, kept_bits: u32) -> i128 {
     let range = kept_sum(x, y, kept_bits) >> kept_bits;
     let error_term = |(k, a): (u32, i128)| a ^ (range * (power(k) - 1));

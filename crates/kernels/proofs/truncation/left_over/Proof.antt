@@ -3,7 +3,7 @@ use borrow.Author.Needs.{needs}
 use mathlib.Core.Path.{_≡_, ap, _∙_}
 use Prim.Native.Nat.{ℕ, _*_, _%_, _^_}
 use native.Mathlib.Omega.{arith}
-use Rattle.designs.specs.Designs.{leftOver, log2, rest}
+use Rattle.designs.specs.Designs.{leftOver, log2}
 use Rattle.designs.proofs.Parts.{one-shifted, rest-lt}
 use Rattle.kernels.proofs.truncation.left_over.Statement.{statement}
 use Rattle.kernels.proofs.truncation.left_over.Tie as tie

@@ -1,4 +1,5 @@
--- The product by design 4, and the product by design 4 with two kept bits of what is left; their sum is a product, so it fits. Assumes nothing.
+-- The product by design 4, and the product by design 4 with two kept bits of what is left; their sum is a product, so it fits.
+-- Assumes nothing.
 use borrow.Author.Needs.{needs}
 use mathlib.Core.Path.{_≡_, sym, ap, ap₂, _∙_}
 use Prim.Native.Nat.{ℕ, _+_, _^_}

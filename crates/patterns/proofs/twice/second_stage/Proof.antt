@@ -1,14 +1,14 @@
 -- Design 4 with two kept bits by cut patterns, read two places higher, where its sum with the carry is whole; the shift down rounds.
 -- Assumes nothing.
 use borrow.Author.Needs.{needs}
-use mathlib.Core.Path.{_≡_, sym, ap, ap₂, _∙_, subst}
+use mathlib.Core.Path.{sym, ap, ap₂, _∙_, subst}
 use Prim.Native.Nat.{ℕ, _+_, _-_, _/_, _%_, _^_}
 use native.Mathlib.Omega.{arith}
 use lib.Bits.{bitAnd}
-use lib.IntN.{ℤ, pos}
+use lib.IntN.{ℤ}
 use mir.Syntax.{w32}
 use mir.Facts.{toZ-pos}
-use Rattle.patterns.specs.Patterns.{maskedBy, Stands}
+use Rattle.patterns.specs.Patterns.{maskedBy}
 use Rattle.patterns.proofs.SecondStage.{Raised, raised}
 use Rattle.patterns.proofs.twice.second_stage.Statement.{statement}
 use Rattle.patterns.proofs.twice.second_stage.Tie as tie
