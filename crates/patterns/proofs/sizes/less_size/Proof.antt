@@ -1,4 +1,4 @@
--- What is taken off has the sign of z and at most its size, so what is left has at most that size too. Assumes nothing.
+-- What is taken off has the sign of z, and both have at most 31 bits, so what is left has too. Assumes nothing.
 use borrow.Author.Needs.{needs}
 use mathlib.Core.Path.{_≡_, refl, sym, ap, _∙_}
 use native.Mathlib.Omega.{arith}
