@@ -2,7 +2,7 @@
 -- scaled by 2^h / 2^(k+m); so (2^h + R) × 2^Q goes by the same two cases and is 2^h times the product of design 1. Assumes nothing.
 use mathlib.Core.Path.{_≡_, sym, ap, ap₂, _∙_}
 use Prim.Native.Nat.{ℕ, zero, suc, _+_, _-_, _*_, _/_, _%_, _^_, _≤_, _<_}
-use native.Mathlib.Nat.{mul-le-mul-left, mul-le-mul-right, mul-div-cancel-left, mul-mod-right, add-sub-of-le}
+use native.Mathlib.Nat.{add-mul-div-right, add-mul-mod-self-right, add-sub-of-le, mul-div-cancel-left, mul-le-mul-left, mul-le-mul-right, mul-mod-right}
 use native.Mathlib.Omega.{arith}
 use borrow.Author.Tests.{lt-ltb, le-ltb}
 use lib.Arith.{digits-div, digits-mod}
@@ -18,6 +18,13 @@ use Rattle.designs.proofs.Zeros.{product-is}
 pub scaled-at : (h q u : ℕ) → u < 2 ^ h → scaledProduct h (q * 2 ^ h + u) ≡ (2 ^ h + u) * 2 ^ q
 unfolding scaledProduct
 scaled-at h q u l = ap₂ (λ (x y : ℕ). (2 ^ h + x) * 2 ^ y) (digits-mod q l) (digits-div q l)
+
+-- e more in the quotient is a factor 2^e
+pub scaled-higher : (h e c : ℕ) → scaledProduct h (c + e * 2 ^ h) ≡ scaledProduct h c * 2 ^ e
+unfolding scaledProduct
+scaled-higher h e c =
+    ap₂ (λ (x y : ℕ). (2 ^ h + x) * 2 ^ y) (add-mul-mod-self-right c e (2 ^ h)) (add-mul-div-right c e (pow-pos h))
+    ∙ rw (pow-add 2 (c / 2 ^ h) e) (omega arith)
 
 -- where u reaches 2^h, one goes over into the quotient
 pub scaled-carried : (h q u : ℕ) → u < 2 * 2 ^ h → scaledProduct h (q * 2 ^ h + u) ≡ 2 ^ q * carried (2 ^ h) u

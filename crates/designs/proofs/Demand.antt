@@ -72,7 +72,7 @@ pair-bound D =
     one (suc A) (suc B) ha hb = refl
 
 -- one pair of integers: its residue has the size of its magnitudes' residue
-residue-size : (D : Design) (x y : ℤ) → natAbs (residue D x y) ≡ dist (natAbs x * natAbs y) (product D (natAbs x) (natAbs y))
+pub residue-size : (D : Design) (x y : ℤ) → natAbs (residue D x y) ≡ dist (natAbs x * natAbs y) (product D (natAbs x) (natAbs y))
 unfolding residue signedProduct
 residue-size D x y =
     rw (true-is x y) (sign-dist (unlike (negative x) (negative y)) (natAbs x * natAbs y) (product D (natAbs x) (natAbs y)))

@@ -23,7 +23,9 @@ pub mod TruncatedBound
 pub mod Sizes
 pub mod Accepted
 pub mod RowSums
+pub mod Worst
 pub mod Demand
+pub mod WorstPair
 pub mod Prefixes
 pub mod Codes
 pub mod KeptCodes

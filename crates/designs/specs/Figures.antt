@@ -34,7 +34,8 @@ abbrev − : ℕ → ℤ
 − n = negℤ (pos n)
 
 abbrev starredRow : Report
-starredRow = record { score = − 20; trueSum = − 21; error = − 1; magnitudeSum = 39; nonzeroPairs = 2 }
+starredRow =
+    record { score = − 20; trueSum = − 21; error = − 1; magnitudeSum = 39; nonzeroPairs = 2; largestResidue = 2; largestPlace = 1 }
 
 pub figures : List (Question × Answer)
 figures =
@@ -160,6 +161,15 @@ pub lengthsJudged-hold : map (λ j. j .0) lengthsJudged ≡ map (λ j. j .1) len
 unfolding lengthsJudged
 lengthsJudged-hold = refl
 
+-- A row whose worst residues are −2 and then 2, and one that leaves nothing.
+abbrev rowWithTie : Report
+rowWithTie =
+    record { score = pos 16; trueSum = pos 18; error = pos 2; magnitudeSum = 78; nonzeroPairs = 4; largestResidue = 2; largestPlace = 1 }
+
+abbrev rowLeftNothing : Report
+rowLeftNothing =
+    record { score = pos 4; trueSum = pos 4; error = pos 0; magnitudeSum = 4; nonzeroPairs = 1; largestResidue = 0; largestPlace = 0 }
+
 -- Rows that are scored or refused into five places: the outcome and what the places then hold, and what both should be.
 abbrev places : List ℤ
 places = pos 91 ∷ pos 92 ∷ pos 93 ∷ pos 94 ∷ pos 95 ∷ []
@@ -174,6 +184,8 @@ rows =
     ∷ (into 1 0 (pos 3 ∷ − 5 ∷ pos 0 ∷ []) (pos 3 ∷ pos 6 ∷ []) places, (refused 5, places))
     ∷ (into 1 0 (pos 3 ∷ − 5 ∷ []) (pos 3 ∷ pos 6 ∷ []) (pos 91 ∷ []), (refused 7, pos 91 ∷ []))
     ∷ (into 2 0 [] [] places, (accepted emptyReport, places))
+    ∷ (into 1 0 (pos 3 ∷ − 5 ∷ pos 5 ∷ pos 3 ∷ []) (pos 3 ∷ pos 6 ∷ pos 6 ∷ pos 3 ∷ []) places, (accepted rowWithTie, pos 1 ∷ − 2 ∷ pos 2 ∷ pos 1 ∷ pos 95 ∷ []))
+    ∷ (into 1 0 (pos 0 ∷ pos 1 ∷ []) (pos 7 ∷ pos 4 ∷ []) places, (accepted rowLeftNothing, pos 0 ∷ pos 0 ∷ pos 93 ∷ pos 94 ∷ pos 95 ∷ []))
     ∷ (into 1 1 (pos 3 ∷ []) [] places, (refused 3, places))
     ∷ (into 6 99 (pos 3 ∷ []) [] places, (refused 1, places))
     ∷ []

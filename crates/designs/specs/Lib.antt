@@ -4,6 +4,7 @@ pub mod Outcomes
 pub mod Lists
 pub mod Products
 pub mod Rows
+pub mod Worst
 pub mod Demand
 pub mod Scoring
 pub mod Codes
