@@ -4,10 +4,11 @@
 Both are linked into one program and take turns on rows that neither has seen; times are medians, as in benchmarks/run.py, and
 instructions are callgrind's, of one call. Both are first compared on the reports and the residues of many rows.
 
-Usage: python3 benchmarks/against.py OTHER [ARCHIVE] [--pairs=N,N,...] [--designs=N]
+Usage: python3 benchmarks/against.py OTHER [ARCHIVE] [--pairs=N,N,...] [--designs=N] [--shorter]
 
 The default of ARCHIVE is target/libhighvane.a; rows have 1, 8 and 4,096 pairs, or as many as --pairs says. Where the other archive lacks the
-last designs, --designs says how many it has.
+last designs, --designs says how many it has; where it is of before version 2.4, and so its report lacks the largest residue and its place,
+--shorter says so.
 """
 import sys
 import tempfile
@@ -53,16 +54,17 @@ def main():
         return [word.removeprefix(option).split(',') for word in sys.argv[1:] if word.startswith(option)]
 
     chosen, designs = numbers('--pairs='), numbers('--designs=')
+    shorter = [word for word in sys.argv[1:] if word == '--shorter']
     archives = [word for word in sys.argv[1:] if not word.startswith('-')]
-    known = len(archives) in (1, 2) and len(chosen) <= 1 and [len(each) for each in designs] in ([], [1])
-    known = known and len(archives) + len(chosen) + len(designs) == len(sys.argv) - 1
+    known = len(archives) in (1, 2) and len(chosen) <= 1 and [len(each) for each in designs] in ([], [1]) and len(shorter) <= 1
+    known = known and len(archives) + len(chosen) + len(designs) + len(shorter) == len(sys.argv) - 1
     if not known or not all(word.isdecimal() for words in chosen + designs for word in words):
         sys.exit(__doc__)
     other, archive = archive_of(archives[0]), archive_of(*archives[1:])
     with tempfile.TemporaryDirectory() as name:
         folder = Path(name)
         output(['objcopy', f'--prefix-symbols={PREFIX}', other, folder / 'other.a'])
-        link_rows([OURS, PREFIX + OURS], [archive, folder / 'other.a'], folder / 'rows')
+        link_rows([OURS, PREFIX + OURS], [archive, folder / 'other.a'], folder / 'rows', *(['-DSHORTER'] if shorter else []))
         lengths = [int(length) for length in chosen[0]] if chosen else [1, 8, PAIRS]
         compare(folder / 'rows', lengths, int(designs[0][0]) if designs else max(BY_ITSELF))
 

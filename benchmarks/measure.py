@@ -24,6 +24,7 @@ C_ROWS = {
 }
 # What is possible: by patterns, and with every instruction of the machine that measures. Their times are taken, and nothing else.
 BEST_ROWS = {f'{name}_native': [*C_ROWS[name], '-march=native'] for name in ('c_each', 'c_each_masked', 'c_one', 'c_one_masked')}
+BEST_ROWS |= {f'{name}_after_native': [*C_ROWS[name], '-DPLACE_AFTER', '-march=native'] for name in ('c_each_masked', 'c_one_masked')}
 BEST_ROWS |= {'c_patterns': ['-O3', '-DPATTERNS'], 'c_patterns_native': ['-O3', '-DPATTERNS', '-march=native']}
 RUST_ROWS = {'rust_each': [], 'rust_one_loop': ['--cfg=one_loop']}
 ROWS = [OURS, *C_ROWS, *RUST_ROWS]
@@ -55,10 +56,10 @@ def build(archive, folder):
         output([*C, '-O2', HERE / f'{program}.c', archive, '-o', folder / program])
 
 
-def link_rows(names, objects, program):
+def link_rows(names, objects, program, *flags):
     """Links the program that calls rows, of these names, with the objects that have them."""
     listed = ' '.join(f'X({name})' for name in names)
-    output([*C, '-O2', f'-DIMPLEMENTATIONS={listed}', HERE / 'rows.c', *objects, '-o', program])
+    output([*C, '-O2', f'-DIMPLEMENTATIONS={listed}', *flags, HERE / 'rows.c', *objects, '-o', program])
 
 
 def archive_of(argument=None):

@@ -6,8 +6,10 @@
  * Two choices are open, and run.py measures all four, so that none of them is picked for the comparison:
  *   ONE_LOOP      one loop that asks for the design at each pair; otherwise a loop for each design, faster and larger
  *   MASKED_SIGNS  signs by masks; otherwise by a branch, which is fewer instructions and is predicted wrongly where signs vary
- * And designs 1 and 5 can be had by other means, as a measure of what is possible:
- *   PATTERNS      by binary32 patterns, which are logarithms, as the library has design 1; they do not shift and add
+ * And some can be had by other means, as a measure of what is possible:
+ *   PATTERNS      designs 1 and 5 by binary32 patterns, which are logarithms, as the library has design 1; they do not shift and add
+ *   PLACE_AFTER   the largest residue and its place by a loop of their own after that of the pairs; where gcc takes several pairs at
+ *                 a time, as with every instruction of a machine of today, the place in the loop would keep it from that
  *
  * The rest is what gave the fewest instructions at gcc -O3. These were measured and gave more, for a pair where each design has
  * its loop: Mitchell with its leading ones cleared and its sum compared (1 to 11 more); the nearest power by a bit or a condition
@@ -15,7 +17,8 @@
  * and up again (7 to 8); the twice truncated one so scaled (14 to 15), with what is left by a mask that is shifted down (4) or by
  * differences under masks (10 to 11), with the carry into the exponent by a condition (1 to 2), and with parts that are 0 by
  * masks (6 to 12); counting the pairs without a 0 and not those with one (1 to 2); summing the error and the true products below
- * 0, as the library does, and not the score and the sizes (1 with a branch on signs; with masks from 1 less to 1 more). A branch
+ * 0, as the library does, and not the score and the sizes (1 with a branch on signs; with masks from 1 less to 1 more). The
+ * largest residue and its place by a loop of their own took up to 1.11 times the time. A branch
  * on the carry of the fractions gave 1 less, or up to 2 in design 5, and at every other pair one more branch that is predicted
  * wrongly, so that design 5 took 1.4 to 1.5 times the time; so it did with what is left by a condition, of which gcc makes a
  * branch. None of the other forms of design 5 was faster, and none took above 1.11 times the time.
@@ -122,7 +125,7 @@ static inline uint32_t size_of(int32_t x) {
 static inline __attribute__((always_inline)) highvane_report accumulate(uint32_t design, uint32_t setting, const int16_t *weights,
                                                                         const int16_t *frame, size_t pairs, int64_t *residues) {
     int64_t score = 0, true_sum = 0;
-    uint64_t magnitude_sum = 0, zero_pairs = 0;
+    uint64_t magnitude_sum = 0, zero_pairs = 0, largest = 0, place = 0;
     for (size_t i = 0; i < pairs; i++) {
         int32_t w = weights[i], x = frame[i], truth = w * x;
         if (truth == 0) {
@@ -149,8 +152,19 @@ static inline __attribute__((always_inline)) highvane_report accumulate(uint32_t
             residues[i] = (int64_t)truth - product;
         }
 #endif
+#ifndef PLACE_AFTER
+        uint64_t size = (uint64_t)llabs(residues[i]);
+        if (size > largest) largest = size, place = i;
+#endif
     }
-    return (highvane_report){score, true_sum, true_sum - score, magnitude_sum, pairs - zero_pairs, HIGHVANE_ACCEPTED};
+#ifdef PLACE_AFTER
+    for (size_t i = 0; i < pairs; i++) {
+        uint64_t size = (uint64_t)llabs(residues[i]);
+        if (size > largest) largest = size, place = i;
+    }
+#endif
+    return (highvane_report){score,   true_sum, true_sum - score, magnitude_sum, pairs - zero_pairs,
+                             largest, place,    HIGHVANE_ACCEPTED};
 }
 
 #ifdef PATTERNS
@@ -198,7 +212,8 @@ static inline __attribute__((always_inline)) highvane_report accumulate_patterns
                                                                                  const int16_t *weights, const int16_t *frame,
                                                                                  size_t pairs, int64_t *residues) {
     int64_t true_sum = 0, error = 0;
-    uint64_t magnitude_sum = 0, nonzero_pairs = 0;
+    uint64_t magnitude_sum = 0, nonzero_pairs = 0, place = 0;
+    int32_t largest = 0;
     for (size_t i = 0; i < pairs; i++) {
         int32_t w = weights[i], x = frame[i], truth = w * x;
         int32_t product = design == HIGHVANE_MITCHELL ? mitchell_by_patterns(w, x, truth)
@@ -209,8 +224,13 @@ static inline __attribute__((always_inline)) highvane_report accumulate_patterns
         magnitude_sum += (uint32_t)abs(truth);
         nonzero_pairs += truth != 0;
         residues[i] = residue;
+        /* with a place in the loop gcc takes no pairs of design 5 together, and those of design 1 it takes one by one in any case */
+        if (abs(residue) > largest) largest = abs(residue), place = design == HIGHVANE_MITCHELL ? i : 0;
     }
-    return (highvane_report){true_sum - error, true_sum, error, magnitude_sum, nonzero_pairs, HIGHVANE_ACCEPTED};
+    if (design != HIGHVANE_MITCHELL)
+        while (place < pairs && llabs(residues[place]) != largest) place++;
+    return (highvane_report){true_sum - error,  true_sum, error, magnitude_sum, nonzero_pairs,
+                             (uint64_t)largest, place,    HIGHVANE_ACCEPTED};
 }
 #endif
 

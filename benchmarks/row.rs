@@ -16,6 +16,8 @@ pub struct Report {
     error: i64,
     magnitude_sum: u64,
     nonzero_pairs: u64,
+    largest_residue: u64,
+    largest_place: u64,
     refusal: u32,
 }
 
@@ -77,7 +79,7 @@ fn twice_truncated(kept_bits: u32, a: NonZeroU32, b: NonZeroU32) -> u32 {
 
 fn accumulate<K: Fn(NonZeroU32, NonZeroU32) -> u32>(weights: &[i16], frame: &[i16], residues: &mut [i64], kernel: K) -> Report {
     let mut report = Report::default();
-    for ((&w, &x), residue) in weights.iter().zip(frame).zip(residues) {
+    for (place, ((&w, &x), residue)) in weights.iter().zip(frame).zip(residues).enumerate() {
         let sizes = (NonZeroU32::new(w.unsigned_abs().into()), NonZeroU32::new(x.unsigned_abs().into()));
         let (Some(a), Some(b)) = sizes else {
             *residue = 0;
@@ -94,6 +96,10 @@ fn accumulate<K: Fn(NonZeroU32, NonZeroU32) -> u32>(weights: &[i16], frame: &[i1
         } else {
             report.score += size;
             *residue = truth - size;
+        }
+        if residue.unsigned_abs() > report.largest_residue {
+            report.largest_residue = residue.unsigned_abs();
+            report.largest_place = place as u64;
         }
     }
     report.error = report.true_sum - report.score;

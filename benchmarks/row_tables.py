@@ -11,6 +11,9 @@ MASKED, BRANCHING = ['c_each_masked', 'c_one_masked'], ['c_each', 'c_one']
 COLUMNS = {OURS: 'ours', 'c_each_masked': 'each, masked', 'c_each': 'each', 'c_one_masked': 'one, masked', 'c_one': 'one',
            'c_each_small': 'Os each', 'c_one_small': 'Os one', 'rust_each': 'Rust each', 'rust_one_loop': 'Rust one'}
 LENGTHS = [1, 64, PAIRS]
+# What the blocks of a row may take more or fewer by any design, as instructions a pair: a test and a jump in a loop that takes four pairs at
+# a time are half an instruction.
+OF_BLOCK = 0.4
 
 
 def number(value):
@@ -108,20 +111,20 @@ def growth_tables(rows):
 
 
 def own_table(rows):
-    """The row of each design by itself, and what deciding between them adds. A pair takes the same either way, and by designs 4 and 5 with
-    every setting, or else a loop would choose; where it does not, this stops."""
+    """The row of each design by itself, and a pair of it by any design. The two are compiled apart, so that a block may take some more or
+    fewer; a pair takes the same, and by designs 4 and 5 with every setting, or else a loop would choose; where it does not, this stops. The
+    pair is the same throughout, so that only the first block is looked through for a place."""
     keys = {key: label for key, label in DESIGNS.items() if key[0] not in KEEPING}
     keys |= {(design, t): f'{design}, every t' for design in KEEPING for t in range(1, 16)}
     body = {}
     for (design, setting), label in keys.items():
-        own, any_design = ([rows.count(name, 'uniform', design, setting, n) for n in (*LENGTHS, 2 * 64)]
-                           for name in (BY_ITSELF[design], OURS))
-        added = [b - a for a, b in zip(own, any_design)]
-        cells = [label, *(number(n) for n in own[:3]), f'{(own[2] - own[1]) / (LENGTHS[2] - LENGTHS[1]):.2f}', number(added[1])]
-        if rows.found and (len({added[1], *added[2:]}) > 1 or body.get(label, cells) != cells):
+        own, any_design = ([rows.count(name, 'ones', design, setting, n) for n in LENGTHS] for name in (BY_ITSELF[design], OURS))
+        a_pair, by_any = ((counts[2] - counts[1]) / (LENGTHS[2] - LENGTHS[1]) for counts in (own, any_design))
+        cells = [label, *(number(n) for n in own), f'{a_pair:.2f}', f'{by_any:.2f}']
+        if rows.found and (abs(by_any - a_pair) > OF_BLOCK or body.get(label, cells) != cells):
             raise SystemExit(f'benchmarks: a row of design {design} with setting {setting} does not choose once: {own}, {any_design}')
         body[label] = cells
-    return ['design', *(f'{n:,}' for n in LENGTHS), 'a pair, 64 to 4,096', 'by any design, more'], list(body.values())
+    return ['design', *(f'{n:,}' for n in LENGTHS), 'a pair, 64 to 4,096', 'a pair by any design'], list(body.values())
 
 
 def own_code_table(program):

@@ -8,6 +8,8 @@
  *   rows         reads lines "implementation data design setting weights frame places" (the last three are lengths), and for each
  *                makes one call and has callgrind write the instructions of that call under the line as its name; the row of a
  *                design by itself is an implementation too
+ *
+ * Where SHORTER, the second implementation is of before version 2.4, whose report ended with the refusal after nonzero_pairs.
  */
 #include <stdio.h>
 #include <stdlib.h>
@@ -66,10 +68,18 @@ static void compare(uint32_t design, uint32_t setting, size_t weights_len, size_
     for (int i = 0; i < COUNT; i++) {
         memset(residues[i], 0x5A, sizeof residues[i]);
         reports[i] = implementations[i].call(design, setting, weights, weights_len, frame, frame_len, residues[i], places);
+#ifdef SHORTER
+        if (i == 1) {
+            reports[i].refusal = (uint32_t)reports[i].largest_residue;
+            reports[i].largest_residue = reports[0].largest_residue;
+            reports[i].largest_place = reports[0].largest_place;
+        }
+#endif
         /* a struct is not compared by its bytes, since those between its fields are free */
         const highvane_report *r = &reports[i], *first = &reports[0];
         if (r->score != first->score || r->true_sum != first->true_sum || r->error != first->error
             || r->magnitude_sum != first->magnitude_sum || r->nonzero_pairs != first->nonzero_pairs
+            || r->largest_residue != first->largest_residue || r->largest_place != first->largest_place
             || r->refusal != first->refusal || memcmp(residues[i], residues[0], sizeof residues[0])) {
             fprintf(stderr, "rows: %s and %s differ at design %u, setting %u, lengths %zu, %zu, %zu\n", implementations[i].name,
                     implementations[0].name, design, setting, weights_len, frame_len, places);

@@ -88,7 +88,7 @@ def print_tables(rows, folder, agreed):
     table(*design_code_table(folder / 'rows'))
     print('### How a row grows: instructions of a whole call\n')
     titled(growth_tables(rows))
-    print('The row of a design by itself on uniform numbers, and how many instructions more it takes by way of `highvane_score_row`:\n')
+    print('The row of a design by itself on the same pair throughout, and what a pair takes by way of `highvane_score_row`:\n')
     table(*own_table(rows))
     print('A refused row, by its length:\n')
     table(*refusal_table(rows))

@@ -32,6 +32,7 @@ int main(void) {
     printf("score %" PRId64 ", error %" PRId64 ", T %" PRIu64 "\n", report.score, report.error, report.magnitude_sum);
     for (size_t i = 0; i < COLUMNS; i++)
         printf("pair %zu: residue %" PRId64 "\n", i, residues[i]);
+    printf("largest residue: %" PRIu64 ", of pair %" PRIu64 "\n", report.largest_residue, report.largest_place);
 
     /* Exact quotients: the score and T divided by 2^SHIFT. */
     highvane_scaled scaled = highvane_scale(report.score, report.magnitude_sum, SHIFT);

@@ -30,7 +30,7 @@ extern "C" {
 
 /* The version. Code that works with one version works, compiled again, with every later one of the same first number. */
 #define HIGHVANE_VERSION_MAJOR 2
-#define HIGHVANE_VERSION_MINOR 3
+#define HIGHVANE_VERSION_MINOR 4
 #define HIGHVANE_VERSION_PATCH 0
 
 /* The designs, each with the settings that it takes at width w; rows have width 16. */
@@ -107,7 +107,11 @@ const char *highvane_refusal_text(uint32_t refusal) {
 
 typedef struct { uint64_t product; uint32_t refusal; } highvane_unsigned;
 typedef struct { int64_t product; uint32_t refusal; } highvane_signed;
-typedef struct { int64_t score, true_sum, error; uint64_t magnitude_sum, nonzero_pairs; uint32_t refusal; } highvane_report;
+typedef struct {
+    int64_t score, true_sum, error;
+    uint64_t magnitude_sum, nonzero_pairs, largest_residue, largest_place;
+    uint32_t refusal;
+} highvane_report;
 typedef struct { double score, magnitude_sum; uint32_t refusal; } highvane_scaled;
 typedef struct { float value; uint32_t refusal; } highvane_single;
 
@@ -125,21 +129,22 @@ highvane_unsigned highvane_product_unsigned(uint32_t design, uint32_t width, uin
 highvane_signed highvane_product_signed(uint32_t design, uint32_t width, uint32_t setting, int64_t a, int64_t b);
 
 /*
- * Scores a row: pair i is weights[i] and frame[i], and the design works at width 16. An empty row is accepted. The report:
- *   score          the sum of the pairs' design products
- *   true_sum       the sum of their true products
- *   error          true_sum - score
- *   magnitude_sum  T, the sum of the sizes of the true products
- *   nonzero_pairs  n, how many pairs hold no 0
- * residues[i] becomes the true product of pair i less its design product, for each pair of the row; later places keep what they
- * held.
+ * Scores a row: pair i is weights[i] and frame[i], and the design works at width 16. An empty row is accepted. residues[i] becomes
+ * the true product of pair i less its design product, for each pair of the row; later places keep what they held. The report:
+ *   score            the sum of the pairs' design products
+ *   true_sum         the sum of their true products
+ *   error            true_sum - score
+ *   magnitude_sum    T, the sum of the sizes of the true products
+ *   nonzero_pairs    n, how many pairs hold no 0
+ *   largest_residue  the largest size of a residue
+ *   largest_place    the first i that has it: the pair with the largest error; of an empty row 0
  *
  * Every sum is below 2^43 in size, and the error by designs 1 to 4 is bounded by T (not by the size of true_sum, where products
  * cancel):
  *   designs 1, 2   9 * |error| <= T; for a single pair without a 0, equal exactly when both sizes are 3 * 2^j
  *   design 3       4^s * |error| <= T, where s is the setting
  *   design 4       9 * 2^t * |error| <= (2^t + 18) * T + 9 * 2^t * n, where t is the setting
- * No such bound is promised for design 5.
+ * No such bound is promised for design 5. By every design |error| <= n * largest_residue.
  *
  * Refusals: 1, 3, 5, 6, 7.
  */
@@ -216,8 +221,9 @@ size_t highvane_transcript(const uint8_t *input, size_t input_len, uint8_t out[H
 HIGHVANE_ASSERT(highvane_lengths_have_64_bits, sizeof(size_t) == 8);
 HIGHVANE_ASSERT(highvane_unsigned_layout, sizeof(highvane_unsigned) == 16 && offsetof(highvane_unsigned, refusal) == 8);
 HIGHVANE_ASSERT(highvane_signed_layout, sizeof(highvane_signed) == 16 && offsetof(highvane_signed, refusal) == 8);
-HIGHVANE_ASSERT(highvane_report_layout, sizeof(highvane_report) == 48 && offsetof(highvane_report, magnitude_sum) == 24
-                                            && offsetof(highvane_report, refusal) == 40);
+HIGHVANE_ASSERT(highvane_report_layout, sizeof(highvane_report) == 64 && offsetof(highvane_report, magnitude_sum) == 24
+                                            && offsetof(highvane_report, largest_place) == 48
+                                            && offsetof(highvane_report, refusal) == 56);
 HIGHVANE_ASSERT(highvane_scaled_layout, sizeof(highvane_scaled) == 24 && offsetof(highvane_scaled, refusal) == 16);
 HIGHVANE_ASSERT(highvane_single_layout, sizeof(highvane_single) == 8 && offsetof(highvane_single, refusal) == 4);
 

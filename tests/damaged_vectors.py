@@ -14,7 +14,7 @@ import sys
 
 VECTORS = pathlib.Path(__file__).resolve().parent.parent / 'crates/vectors'
 # more than the program reads
-CAPACITY = 1 << 20
+CAPACITY = 1 << 21
 GROUPS = {'u': 'products', 's': 'products', 'r': 'rows', 't': 'stores', 'h': 'scores', 'f': 'singles'}
 # where the refusal stands, the first field of the answer; of a row it is behind two lists
 REFUSAL = {'u': 6, 's': 6, 't': 4, 'h': 4, 'f': 3}
@@ -68,10 +68,10 @@ def answers(kind, words):
     """The damages of an accepted and of a refused line: each field of the answer wrong."""
     fields = range(len(words) - refusal_at(words))
     if kind == 'r':
-        # the refusal, five numbers, how many residues, the first and the last of them
-        fields = [0, 1, 2, 3, 4, 5, 6, 7, -1]
+        # the refusal, seven numbers, how many residues, the first and the last of them
+        fields = [*range(10), -1]
     accepted = {f'field {at} of the answer': with_word(at, one_more) for at in fields}
-    refused = {f'field {at} of a refused answer': with_word(at, one_more) for at in fields if 0 <= at < 7}
+    refused = {f'field {at} of a refused answer': with_word(at, one_more) for at in fields if 0 <= at < 9}
     refused['a refusal taken back'] = with_word(0, lambda word: '0')
     return accepted, refused
 

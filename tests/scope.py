@@ -78,11 +78,28 @@ def check_figures():
     if shown != list(figures.PRODUCTS):
         report(SCOPE, 'its table of figures is not that of the reference program')
     row = figures.ROW_REPORT
-    pairs = ', '.join(f'({weight}, {number})' for weight, number in figures.ROW_PAIRS)
-    residues = ', '.join(map(str, row.residues))
-    said = f'{pairs}: score {row.score}, true sum {row.true_sum}, error {row.error}, T {row.t}, n {row.n}; residues {residues}.'
-    if said.replace('-', '−') not in text(SCOPE):
-        report(SCOPE, f'does not say of the row: {said}')
+    sums = f'score {row.score}, true sum {row.true_sum}, error {row.error}, T {row.t}, n {row.n}'
+    check_said(f'{pairs_in(figures.ROW_PAIRS)}: {sums}, {worst_in(row)}; residues {listed(row.residues)}.')
+    for pairs, largest, place, residues in figures.WORST_PAIRS:
+        check_said(f'{pairs_in(pairs)} has the residues {listed(residues)}, and its largest residue is {largest} at place {place}.')
+
+
+def listed(numbers):
+    return ', '.join(map(str, numbers))
+
+
+def pairs_in(pairs):
+    return listed(f'({weight}, {number})' for weight, number in pairs)
+
+
+def worst_in(row):
+    return f'largest residue {row.largest} at place {row.place}'
+
+
+def check_said(sentence):
+    """Of a row; the scope may break its line anywhere."""
+    if sentence.replace('-', '−') not in ' '.join(text(SCOPE).split()):
+        report(SCOPE, f'does not say of a row: {sentence}')
 
 
 def check_sample():

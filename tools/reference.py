@@ -14,7 +14,7 @@ which they stand here:
 
     u DESIGN WIDTH SETTING A B REFUSAL PRODUCT
     s DESIGN WIDTH SETTING A B REFUSAL PRODUCT
-    r DESIGN SETTING WEIGHTS FRAME PLACES REFUSAL SCORE TRUE ERROR T N RESIDUES
+    r DESIGN SETTING WEIGHTS FRAME PLACES REFUSAL SCORE TRUE ERROR T N LARGEST PLACE RESIDUES
     t LENGTH COLUMNS ROW REFUSAL START COUNT
     h SCORE T SHIFT REFUSAL SCOREBITS TBITS
     f A B REFUSAL BITS
@@ -27,8 +27,9 @@ every field after REFUSAL is 0.  A list is its length followed by its elements, 
 
 `r` (scoring a row, at width 16): DESIGN and SETTING fit 32 bits unsigned.  WEIGHTS and FRAME are lists of signed 16-bit numbers.
 PLACES is the length of the residue slice that is lent, whose place j (counted from 0) holds 1000000 + j before the call.  SCORE,
-TRUE and ERROR are signed, T and N are not negative.  RESIDUES is the list of the residues, as long as the row; every later place
-keeps its contents, and where the row is refused, so that RESIDUES is empty, every place does.
+TRUE and ERROR are signed, T and N are not negative.  LARGEST is the largest size of a residue, and PLACE the first place that has
+it.  RESIDUES is the list of the residues, as long as the row; every later place keeps its contents, and where the row is refused, so
+that RESIDUES is empty, every place does.
 
 `t` (finding a row in a weight store): LENGTH is the store's, 0 to 8192, COLUMNS and ROW fit 64 bits unsigned.  The row is the COUNT
 elements of the store from place START on.
@@ -68,9 +69,9 @@ PARTS = (
     (reference_vectors.singles, reference_checks.singles),
 )
 
-# What is printed is kept beside the library, so it must stay small; the program that runs it reads less than 2^20 bytes.
-MAX_BYTES = 1040000
-MAX_LINES = 21000
+# What is printed is kept beside the library, so it must stay small; the program that runs it reads less than 2^21 bytes.
+MAX_BYTES = 1200000
+MAX_LINES = 21500
 
 
 def checked_text():

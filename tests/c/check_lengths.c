@@ -34,7 +34,7 @@ static void stores(void) {
 
 static void compare_refused(const highvane_report *given, uint32_t refusal, const char *what) {
     compare(given->refusal == refusal && given->score == 0 && given->true_sum == 0 && given->error == 0 && given->magnitude_sum == 0
-                && given->nonzero_pairs == 0,
+                && given->nonzero_pairs == 0 && given->largest_residue == 0 && given->largest_place == 0,
             "%s: refusal %" PRIu32 ", score %" PRId64 ", not refusal %" PRIu32 " and zeros", what, given->refusal, given->score, refusal);
 }
 

@@ -35,11 +35,14 @@ static void due_report(vector *v, const highvane_report *given) {
     due_signed(v, "error", given->error);
     due(v, "T", given->magnitude_sum);
     due(v, "n", given->nonzero_pairs);
+    due(v, "largest residue", given->largest_residue);
+    due(v, "place of the largest residue", given->largest_place);
 }
 
 static int same_report(const highvane_report *a, const highvane_report *b) {
     return a->score == b->score && a->true_sum == b->true_sum && a->error == b->error && a->magnitude_sum == b->magnitude_sum
-           && a->nonzero_pairs == b->nonzero_pairs && a->refusal == b->refusal;
+           && a->nonzero_pairs == b->nonzero_pairs && a->largest_residue == b->largest_residue && a->largest_place == b->largest_place
+           && a->refusal == b->refusal;
 }
 
 /* The row of a design by itself: the report and every place are those of the row with that design. */

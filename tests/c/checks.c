@@ -37,7 +37,7 @@ void *had(void *thing, const char *what) {
 }
 
 char *text_of(const char *file, size_t *length) {
-    enum { MOST = 1 << 20 };
+    enum { MOST = 1 << 21 };
     FILE *stream = had(fopen(file, "rb"), file);
     char *text = had(malloc(MOST + 1), "room for a file");
     *length = fread(text, 1, MOST, stream);

@@ -8,6 +8,7 @@ from reference_meaning.products import SIGNED
 from reference_meaning.rows import MAX_PAIRS, ROW_WIDTH, row_outcome, row_pairs, row_refusal, row_report, without_zero
 from reference_vectors.choice import boundary_operands
 from reference_vectors.rows import (
+    BLOCK_PAIRS,
     DESIGNS_WITH_TIES,
     LONG_ROWS,
     LOWEST_ELEMENT,
@@ -24,6 +25,9 @@ from .expect import check_refusals, expect
 def check_figures():
     found = row_outcome(row_of(MITCHELL, 0, figures.ROW_PAIRS, 0))
     expect(found == (0, figures.ROW_REPORT), f"the row with a star: {found}")
+    for pairs, largest, place, residues in figures.WORST_PAIRS:
+        found = row_report(MITCHELL, 0, pairs)
+        expect(found[-3:] == (largest, place, residues), f"the row of {pairs}: {found}")
     for length, refusal in figures.ROW_LENGTHS:
         found = row_refusal(row_of(MITCHELL, 0, [(1, 1)] * length, 0))
         expect(found == refusal, f"row of {length} pairs: refusal {refusals.said(found)}, not {refusals.said(refusal)}")
@@ -77,6 +81,7 @@ def check_report(design, setting, pairs):
     expect(len(report.residues) == len(pairs), f"{what}: number of residues")
     expect(abs(report.true_sum) <= report.t, f"{what}: T")
     expect(0 <= report.n <= len(pairs), f"{what}: n")
+    check_worst(what, report)
     expect(all(abs(total) < 2**43 for total in report[:-1]), f"{what}: a sum is too large")
     if design in BOUNDS:
         error_side, bound_side = BOUNDS[design](setting, abs(report.error), report)
@@ -84,6 +89,14 @@ def check_report(design, setting, pairs):
     if design in DESIGNS_WITH_TIES:
         met = error_side == bound_side
         expect(met == meets_bound(pairs), f"{what}: bound met is {met}")
+
+
+def check_worst(what, report):
+    """The largest residue and its place by another way than the definition's, by sorting; and what they say of the error."""
+    ordered = sorted((-abs(residue), place) for place, residue in enumerate(report.residues))
+    size, place = ordered[0] if ordered else (0, 0)
+    expect((report.largest, report.place) == (-size, place), f"{what}: largest residue")
+    expect(abs(report.error) <= report.n * report.largest, f"{what}: error beside the largest residue")
 
 
 def check_reports(cases):
@@ -129,6 +142,33 @@ def check_lengths(accepted):
         expect(found in lengths, f"no row of design, setting, length {found}")
 
 
+def mistaken_for_worst(case, report):
+    """By which wrong ways of finding the largest residue or its place a row gives something else."""
+    residues, pairs = report.residues, row_pairs(case)
+    largest, place = report.largest, report.place
+    sizes = [abs(residue) for residue in residues]
+    ways = {
+        "the last place": len(sizes) - 1 - sizes[::-1].index(largest),
+        "the place of the largest number with its sign": residues.index(max(residues)),
+        "the place of the lowest number with its sign": residues.index(min(residues)),
+        "the place of the largest true product": max(range(len(pairs)), key=lambda i: abs(pairs[i][0] * pairs[i][1])),
+        "the first place": 0,
+        "the place in its block": place % BLOCK_PAIRS,
+        "the place in the block before": max(place - BLOCK_PAIRS, 0),
+    }
+    return {way for way, found in ways.items() if found != place}
+
+
+def check_worst_places(accepted):
+    """For every design, each wrong way of finding the place is wrong of some row."""
+    for design in DESIGNS:
+        found = set()
+        for case in accepted:
+            if case.design == design and case.weights:
+                found |= mistaken_for_worst(case, row_report(design, case.setting, row_pairs(case)))
+        expect(len(found) == 7, f"rows of design {design} tell the worst place only from {sorted(found)}")
+
+
 def check_elements(accepted):
     """Every boundary operand in either place for every design."""
     weights = {(case.design, weight) for case in accepted for weight in case.weights}
@@ -147,4 +187,5 @@ def check(chosen):
     check_largest_sums()
     accepted = [case for case in chosen.cases if row_refusal(case) == 0]
     check_lengths(accepted)
+    check_worst_places(accepted)
     check_elements(accepted)

@@ -83,7 +83,13 @@ JUDGED_PRODUCTS = (
 
 # The row with a star, by design 1, and its report.
 ROW_PAIRS = ((3, 3), (-5, 6), (0, 7))
-ROW_REPORT = RowReport(score=-20, true_sum=-21, error=-1, t=39, n=2, residues=(1, -2, 0))
+ROW_REPORT = RowReport(score=-20, true_sum=-21, error=-1, t=39, n=2, largest=2, place=1, residues=(1, -2, 0))
+
+# By design 1: the pairs, the largest residue and its place, and the residues.
+WORST_PAIRS = (
+    (((3, 3), (-5, 6), (5, 6), (3, 3)), 2, 1, (1, -2, 2, 1)),
+    (((0, 7), (1, 4)), 0, 0, (0, 0)),
+)
 
 # The lengths at the limit of a row, and what each is refused with.
 ROW_LENGTHS = ((4096, 0), (4097, 6))

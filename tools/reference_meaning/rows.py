@@ -10,9 +10,9 @@ MAX_PAIRS = 4096
 
 # Weights and frame are tuples; `places` is the length of the lent residue slice.
 RowInput = collections.namedtuple("RowInput", "design setting weights frame places")
-RowReport = collections.namedtuple("RowReport", "score true_sum error t n residues")
+RowReport = collections.namedtuple("RowReport", "score true_sum error t n largest place residues")
 
-NO_REPORT = RowReport(score=0, true_sum=0, error=0, t=0, n=0, residues=())
+NO_REPORT = RowReport(score=0, true_sum=0, error=0, t=0, n=0, largest=0, place=0, residues=())
 
 
 def row_refusal(case):
@@ -40,20 +40,29 @@ def without_zero(pair):
     return weight != 0 and number != 0
 
 
+def largest_and_place(residues):
+    """The largest size of the residues, and the first place that has it; 0 and 0 where there are none."""
+    sizes = [abs(residue) for residue in residues]
+    largest = max(sizes, default=0)
+    return (largest, sizes.index(largest)) if sizes else (0, 0)
+
+
 def row_report(design, setting, pairs):
     """The report on the pairs of an accepted row."""
     products = [signed_product(design, setting, weight, number) for weight, number in pairs]
     true_products = [weight * number for weight, number in pairs]
     score, true_sum = sum(products), sum(true_products)
+    residues = tuple(true_product - product for true_product, product in zip(true_products, products))
+    largest, place = largest_and_place(residues)
     return RowReport(
         score=score,
         true_sum=true_sum,
         error=true_sum - score,
         t=sum(abs(true_product) for true_product in true_products),
         n=sum(1 for pair in pairs if without_zero(pair)),
-        residues=tuple(
-            true_product - product for true_product, product in zip(true_products, products)
-        ),
+        largest=largest,
+        place=place,
+        residues=residues,
     )
 
 

@@ -5,7 +5,7 @@ import itertools
 from reference_meaning import figures
 from reference_meaning.designs import DESIGNS, MITCHELL, NEAREST, STAGED, TRUNCATED, TWICE_TRUNCATED, settings_accepted
 from reference_meaning.products import SIGNED, fits, highest_operand, lowest_operand
-from reference_meaning.rows import MAX_PAIRS, ROW_WIDTH, RowInput, row_outcome
+from reference_meaning.rows import MAX_PAIRS, ROW_WIDTH, RowInput, row_outcome, row_report
 
 from .choice import (
     Chosen,
@@ -141,6 +141,44 @@ def tie_rows(design):
         yield row_of(design, 0, below[:-1] + [(5, -3)], 0)
 
 
+# So many pairs are thought to be taken at a time: the largest residue is put at either side of such a border.
+BLOCK_PAIRS = 64
+WORST_LENGTHS = (1, 2, 7, 8, 9, BLOCK_PAIRS, BLOCK_PAIRS + 1, 2 * BLOCK_PAIRS + 3)
+
+
+def worst_pair(design, setting):
+    """A short pair with a large residue, by searching."""
+    return max(itertools.product(range(1, 64, 2), repeat=2), key=lambda pair: largest_of(design, setting, [pair]))
+
+
+def largest_of(design, setting, pairs):
+    return row_report(design, setting, pairs).largest
+
+
+def worst_places(length):
+    """Where the largest residue is put: at one place, or at two, of which the first counts."""
+    ends = sorted({0, length // 2, length - 1, *(place for place in (BLOCK_PAIRS - 1, BLOCK_PAIRS) if place < length)})
+    yield from ((place,) for place in ends)
+    yield from zip(ends, ends[1:])
+    if len(ends) > 1:
+        yield ends[0], ends[-1]
+
+
+def worst_rows(design):
+    """Rows of pairs that leave little, with the largest residue once or twice among them, of either sign."""
+    settings = itertools.cycle(sorted({*settings_accepted(design, ROW_WIDTH)[:2]}))
+    signs, spares = itertools.cycle(SIGN_PAIRS), itertools.cycle(SPARE_PLACES)
+    for length in WORST_LENGTHS:
+        for places in worst_places(length):
+            setting = next(settings)
+            weight, number = worst_pair(design, setting)
+            pairs = [(1, 2)] * length
+            for place in places:
+                sign_a, sign_b = next(signs)
+                pairs[place] = (sign_a * weight, sign_b * number)
+            yield row_of(design, setting, pairs, next(spares))
+
+
 def random_short_rows(rng):
     for design, setting in design_settings():
         for _ in range(2):
@@ -188,6 +226,8 @@ def long_rows(rng):
 def accepted_rows(rng):
     for spare in SPARE_PLACES:
         yield row_of(MITCHELL, 0, figures.ROW_PAIRS, spare)
+    for pairs, *_ in figures.WORST_PAIRS:
+        yield row_of(MITCHELL, 0, pairs, 0)
     yield from empty_rows()
     for design in DESIGNS:
         yield from boundary_rows(design)
@@ -197,6 +237,8 @@ def accepted_rows(rng):
     for design in DESIGNS_WITH_TIES:
         yield from tie_singles(design)
         yield from tie_rows(design)
+    for design in DESIGNS:
+        yield from worst_rows(design)
     yield from random_short_rows(rng)
     yield from random_middle_rows(rng)
     yield from long_rows(rng)

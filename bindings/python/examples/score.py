@@ -14,6 +14,7 @@ report = score_row(Design.MITCHELL, 0, weights, frame, residues)
 print(f'score {report.score}, error {report.error}, T {report.magnitude_sum}')
 for i, residue in enumerate(residues):
     print(f'pair {i}: residue {residue}')
+print(f'largest residue: {report.largest_residue}, of pair {report.largest_place}')
 
 # Exact quotients: the score and T divided by 2^3.
 scaled = scale(report.score, report.magnitude_sum, 3)

@@ -41,7 +41,7 @@ from .singles import single_product, single_product_of_bits
 from .stores import row_of, row_refusal
 
 # that of include/highvane.h
-__version__ = '2.3.0'
+__version__ = '2.4.0'
 
 __all__ = [
     'Design', 'INPUT_MAX', 'PAIRS_MAX', 'Refusal', 'Refused', 'Report', 'SHIFT_MAX', 'Scaled', 'TRANSCRIPT_MAX', 'row_of', 'row_refusal',

@@ -34,7 +34,7 @@ class Signed(ctypes.Structure):
 class Report(ctypes.Structure):
     """The answer of highvane_score_row and of the rows by one design."""
     _fields_ = [('score', c_int64), ('true_sum', c_int64), ('error', c_int64), ('magnitude_sum', c_uint64), ('nonzero_pairs', c_uint64),
-                ('refusal', c_uint32)]
+                ('largest_residue', c_uint64), ('largest_place', c_uint64), ('refusal', c_uint32)]
 
 
 class Scaled(ctypes.Structure):
@@ -71,3 +71,12 @@ highvane_scale = _function('highvane_scale', Scaled, c_int64, c_uint64, c_uint32
 highvane_single_product = _function('highvane_single_product', Single, c_uint32, c_uint32)
 highvane_table_product = _function('highvane_table_product', c_uint16, c_uint8, c_uint8)
 highvane_transcript = _function('highvane_transcript', c_size_t, c_void_p, c_size_t, c_void_p)
+
+
+def _judge_report():
+    """A shared object of before 2.4.0 has every name too, and a shorter report, of which nothing would be read where it stands."""
+    if highvane_score_row(0, 0, None, 0, None, 0, None, 0).refusal != 1:
+        raise ImportError(f'libhighvane.so in {FOLDER} is of another version: its report has other fields')
+
+
+_judge_report()

@@ -13,12 +13,15 @@ PAIRS_MAX = 4096
 @dataclasses.dataclass(frozen=True)
 class Report:
     """What scoring a row gives: the score, which is the sum of the design's products; the sum of the true products; the error, which is the
-    true sum less the score; T, the sum of the sizes of the true products; and n, how many pairs are without a zero."""
+    true sum less the score; T, the sum of the sizes of the true products; n, how many pairs are without a zero; and the largest size of a
+    residue, with the first place that has it. The error's size is at most n times the largest residue."""
     score: int
     true_sum: int
     error: int
     magnitude_sum: int
     nonzero_pairs: int
+    largest_residue: int
+    largest_place: int
 
 
 def score_row(design, setting, weights, frame, residues):
@@ -30,7 +33,7 @@ def score_row(design, setting, weights, frame, residues):
     >>> from highvane import Design
     >>> residues = array('q', [99, 99, 99, 99])
     >>> score_row(Design.MITCHELL, 0, array('h', [3, -5, 0]), array('h', [3, 6, 7]), residues)
-    Report(score=-20, true_sum=-21, error=-1, magnitude_sum=39, nonzero_pairs=2)
+    Report(score=-20, true_sum=-21, error=-1, magnitude_sum=39, nonzero_pairs=2, largest_residue=2, largest_place=1)
     >>> residues.tolist()
     [1, -2, 0, 99]
     """

@@ -56,3 +56,15 @@ class Package(unittest.TestCase):
             shutil.copy(highvane.raw.FOLDER / 'libhighvane.so', folder)
             copied = self.run_python('-c', 'import highvane; print(highvane.table_product(3, 3))', HIGHVANE_LIB=name)
             self.assertEqual((copied.stdout, copied.stderr), ('8\n', ''))
+
+    def test_shared_object_of_another_version(self):
+        names = [name for name in vars(highvane.raw) if name.startswith('highvane_') and name != 'highvane_score_row']
+        shorter = """struct { long long sums[3]; unsigned long long counts[2]; unsigned refusal; } answer = {{0}, {0}, 1};
+        __typeof__(answer) highvane_score_row(void) { return answer; }"""
+        for left_out, problem in [(0, 'its report has other fields'), (1, f'it has no {names[0]}')]:
+            with self.subTest(problem), tempfile.TemporaryDirectory() as folder:
+                code = shorter + ''.join(f'void {name}(void) {{}}' for name in names[left_out:])
+                command = ['gcc', '-shared', '-fPIC', '-x', 'c', '-', '-o', f'{folder}/libhighvane.so']
+                subprocess.run(command, input=code, text=True, check=True)
+                found = self.run_python('-c', 'import highvane', HIGHVANE_LIB=folder)
+                self.assertIn(f'ImportError: libhighvane.so in {folder} is of another version: {problem}', found.stderr)

@@ -15,6 +15,7 @@ fn main() -> Result<(), Refusal> {
     for (i, residue) in residues.iter().enumerate() {
         println!("pair {i}: residue {residue}");
     }
+    println!("largest residue: {}, of pair {}", report.largest_residue, report.largest_place);
 
     // Exact quotients: the score and T divided by 2^3.
     let scaled = scale(report.score, report.magnitude_sum, 3)?;

@@ -114,8 +114,8 @@ const _: () = {
     assert!(size_of::<usize>() == 8);
     assert!(size_of::<Unsigned>() == 16 && offset_of!(Unsigned, refusal) == 8);
     assert!(size_of::<Signed>() == 16 && offset_of!(Signed, refusal) == 8);
-    assert!(size_of::<ScoredRow>() == 48 && offset_of!(ScoredRow, refusal) == 40);
-    assert!(size_of::<Report>() == 40 && offset_of!(Report, magnitude_sum) == 24);
+    assert!(size_of::<ScoredRow>() == 64 && offset_of!(ScoredRow, refusal) == 56);
+    assert!(size_of::<Report>() == 56 && offset_of!(Report, magnitude_sum) == 24 && offset_of!(Report, largest_place) == 48);
     assert!(size_of::<Scaled>() == 24 && offset_of!(Scaled, refusal) == 16);
     assert!(size_of::<Single>() == 8 && offset_of!(Single, refusal) == 4);
     assert!(align_of::<ScoredRow>() == 8 && align_of::<Single>() == 4);

@@ -33,8 +33,12 @@ pub struct Report {
     pub error: i64,
     /// T, the sum of the sizes of the true products.
     pub magnitude_sum: u64,
-    /// n, how many pairs are without a zero.
+    /// n, how many pairs are without a zero. The error's size is at most n times the largest residue.
     pub nonzero_pairs: u64,
+    /// The largest size of a residue.
+    pub largest_residue: u64,
+    /// The first place whose residue has that size; 0 where the row is empty.
+    pub largest_place: u64,
 }
 
 /// Scores a frame by a row of weights at width 16. Place i of `residues` gets the residue of pair i, its true product less the
@@ -52,6 +56,7 @@ pub struct Report {
 /// assert_eq!((report.score, report.true_sum, report.error), (-20, -21, -1));
 /// assert_eq!((report.magnitude_sum, report.nonzero_pairs), (39, 2));
 /// assert_eq!(residues, [1, -2, 0, 99]);
+/// assert_eq!((report.largest_residue, report.largest_place), (2, 1));
 ///
 /// let refused = score_row(Design::Mitchell, &[3, -5, 0], &[3, 6], &mut residues);
 /// assert_eq!(refused, Err(Refusal::LengthsDiffer));

@@ -1,19 +1,24 @@
 -- Design 3 on a block: what the stages leave of a weight, and n places behind it of its number of the frame. Both multiplied are the
 -- residue of the pair. Assumes nothing.
-use mathlib.Core.Path.{_≡_, sym, ap, ap₂, _∙_}
-use Prim.Native.Nat.{ℕ, _+_, _/_, _<_}
+use mathlib.Core.Path.{_≡_, refl, sym, ap, ap₂, _∙_}
+use Prim.Native.Nat.{ℕ, _+_, _/_, _^_, _<_}
+use native.Mathlib.Nat.{mul-le-mul}
 use native.Mathlib.Omega.{arith}
 use mathlib.Core.List.{List}
-use lib.IntN.{ℤ, _*ℤ_}
+use lib.IntN.{ℤ, natAbs, _*ℤ_}
 use lib.ListN.{length}
 use Rattle.designs.specs.Designs.{staged}
 use Rattle.designs.specs.Signs.{leftℤ, residue}
 use Rattle.designs.proofs.Cases.{either-lt}
+use Rattle.designs.proofs.Sizes.{size-true}
 use Rattle.designs.proofs.SignedLeft.{staged-left}
 use Rattle.pairs.specs.Lengths.{pairsOf}
 use Rattle.patterns.specs.Blocks.{Done, joined, Left, place}
 use Rattle.patterns.proofs.Blocks.{behind, in-first, in-second}
-use Rattle.blocks.specs.Residues.{FilledByStages, ofPair}
+use Rattle.blocks.specs.Residues.{ofPair, ResiduesByStages}
+use Rattle.blocks.specs.Sums.{Adds, Held, taken, TakenByStages}
+use Rattle.blocks.specs.declared.sums.BlockSums.{BlockSums}
+use Rattle.blocks.proofs.Adding.{added-as}
 
 module _ (s : ℕ) (ws fs : List ℤ) (n : ℕ) {before block after : List ℤ} (left : Left s ws fs n before block)
     (d : Done (λ k. place block k *ℤ place block (n + k)) n block after) where
@@ -40,5 +45,17 @@ module _ (s : ℕ) (ws fs : List ℤ) (n : ℕ) {before block after : List ℤ} 
         later = λ k h. d .later k (omega arith) ∙ left .done .later k h;
       }
 
-  pub filled : n ≡ pairsOf (length ws) (length fs) (length before / 2) → FilledByStages s ws fs before after
-  filled e = rw (sym e) multiplied
+  small : (k : ℕ) → k < n → natAbs (place after k) < 2 ^ 31
+  small k h =
+      rw (d .first k h)
+      (omega (arith, size-true (place block k) (place block (n + k)), mul-le-mul (left .small .at k (omega arith)) (left .small .at (n + k) (omega arith))))
+
+  pub filled : length before ≡ 128 → n ≡ pairsOf (length ws) (length fs) (length before / 2) → ResiduesByStages s ws fs (taken ws fs) before after × Held ws fs after
+  filled l e =
+      let same : n ≡ taken ws fs = omega arith in
+      (rw (sym same) multiplied, record { places = omega (arith, multiplied .size); small = λ k h. small k (omega arith) })
+
+-- the sums of a block that holds the residues in its first places
+pub then-added : {t : ℕ} {ws fs before after : List ℤ} {s : BlockSums} → ResiduesByStages t ws fs (taken ws fs) before after → Adds (place after) (place ws) (place fs) (taken ws fs) s → TakenByStages t ws fs before after s
+then-added {t} {ws} {fs} filled adds =
+    record { filled = filled; adds = added-as (λ k h. (filled .first k (omega arith) ∙ in-first (taken ws fs) (ofPair (residue (staged t)) ws fs) (λ i. leftℤ t (place fs i)) k h, refl, refl)) adds }

@@ -1,2 +1,4 @@
-pub mod Filling
 pub mod LeftOfBlock
+pub mod Counts
+pub mod Adding
+pub mod Taking

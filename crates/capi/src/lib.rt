@@ -8,8 +8,7 @@ ghost use Rattle.stores.specs.Stores.{storeRefusal};
 ghost use Rattle.byte_table.specs.Table.{TableProduct};
 ghost use Rattle.singles.specs.Singles.{singleOutcome};
 ghost use Rattle.transcripts.specs.Transcripts.{Written};
-ghost use Rattle.rows.specs.Answers.{given};
-ghost use Rattle.capi.specs.Rows.{RowLaid, RowStruct};
+ghost use Rattle.capi_rows.specs.Rows.{RowStruct};
 ghost use Rattle.capi.specs.Structs.{unsignedStruct, signedStruct, scaledStruct, singleStruct};
 
 #[repr(C)]
@@ -70,28 +69,7 @@ pub extern "C" fn highvane_product_signed(
     }
 }
 
-// The report stands first, as it is, so that its fields are the struct's own.
-#[repr(C)]
-pub struct ScoredRow {
-    pub report: rows::RowReport,
-    pub refusal: u32,
-}
-
-// An answer of a row, laid out for C.
-fn laid(answer: rows::Scored) -> ScoredRow
-    ensures { λ r. ⌜ RowLaid (given answer) r ⌝ }
-{
-    match answer {
-        rows::Scored::Report(report) => ScoredRow { report, refusal: 0 },
-        rows::Scored::Refused(refusal) => ScoredRow {
-            report: rows::RowReport::empty(),
-            refusal,
-        },
-    }
-}
-
-// A row by any design decides between the five below. By way of `rows::score_row` an answer would be copied once more before it is laid
-// out.
+// By any design.
 #[no_mangle]
 pub extern "C" fn highvane_score_row(
     design: u32,
@@ -99,87 +77,10 @@ pub extern "C" fn highvane_score_row(
     weights: &[i16],
     frame: &[i16],
     residues: &mut [i64],
-) -> ScoredRow
+) -> capi_rows::ScoredRow
     ensures { λ r. ⌜ RowStruct design setting (now (weights .entry)) (now (frame .entry)) (now (residues .entry)) (now (residues .exit)) r ⌝ }
 {
-    if design == 1 {
-        return highvane_score_row_mitchell(setting, weights, frame, residues);
-    }
-    if design == 2 {
-        return highvane_score_row_nearest(setting, weights, frame, residues);
-    }
-    if design == 3 {
-        return highvane_score_row_staged(setting, weights, frame, residues);
-    }
-    if design == 4 {
-        return highvane_score_row_truncated(setting, weights, frame, residues);
-    }
-    if design == 5 {
-        return highvane_score_row_twice_truncated(setting, weights, frame, residues);
-    }
-    laid(rows::Scored::Refused(refusals::UNKNOWN_DESIGN))
-}
-
-#[no_mangle]
-pub extern "C" fn highvane_score_row_mitchell(
-    setting: u32,
-    weights: &[i16],
-    frame: &[i16],
-    residues: &mut [i64],
-) -> ScoredRow
-    ensures { λ r. ⌜ RowStruct 1 setting (now (weights .entry)) (now (frame .entry)) (now (residues .entry)) (now (residues .exit)) r ⌝ }
-{
-    laid(rows::score_row_mitchell(setting, weights, frame, residues))
-}
-
-// The rows of designs 2, 3 and 5 are too long to be compiled into their callers. A slice is given on to them as `[..]`, which is all of it,
-// so that it reaches them in registers: given on as it came, it would go through memory.
-#[no_mangle]
-pub extern "C" fn highvane_score_row_nearest(
-    setting: u32,
-    weights: &[i16],
-    frame: &[i16],
-    residues: &mut [i64],
-) -> ScoredRow
-    ensures { λ r. ⌜ RowStruct 2 setting (now (weights .entry)) (now (frame .entry)) (now (residues .entry)) (now (residues .exit)) r ⌝ }
-{
-    laid(rows::score_row_nearest(setting, &weights[..], &frame[..], residues))
-}
-
-#[no_mangle]
-pub extern "C" fn highvane_score_row_staged(
-    setting: u32,
-    weights: &[i16],
-    frame: &[i16],
-    residues: &mut [i64],
-) -> ScoredRow
-    ensures { λ r. ⌜ RowStruct 3 setting (now (weights .entry)) (now (frame .entry)) (now (residues .entry)) (now (residues .exit)) r ⌝ }
-{
-    laid(rows::score_row_staged(setting, &weights[..], &frame[..], residues))
-}
-
-#[no_mangle]
-pub extern "C" fn highvane_score_row_truncated(
-    setting: u32,
-    weights: &[i16],
-    frame: &[i16],
-    residues: &mut [i64],
-) -> ScoredRow
-    ensures { λ r. ⌜ RowStruct 4 setting (now (weights .entry)) (now (frame .entry)) (now (residues .entry)) (now (residues .exit)) r ⌝ }
-{
-    laid(rows::score_row_truncated(setting, weights, frame, residues))
-}
-
-#[no_mangle]
-pub extern "C" fn highvane_score_row_twice_truncated(
-    setting: u32,
-    weights: &[i16],
-    frame: &[i16],
-    residues: &mut [i64],
-) -> ScoredRow
-    ensures { λ r. ⌜ RowStruct 5 setting (now (weights .entry)) (now (frame .entry)) (now (residues .entry)) (now (residues .exit)) r ⌝ }
-{
-    laid(rows::score_row_twice_truncated(setting, &weights[..], &frame[..], residues))
+    capi_rows::laid(rows::score_row(design, setting, weights, frame, residues))
 }
 
 #[no_mangle]

@@ -51,3 +51,12 @@ plain (negsuc n) e l = absurd (false≢true (sym e))
 pub turned : (x : ℤ) → negative x ≡ true → negative (negℤ x) ≡ false
 turned (pos n) e = absurd (false≢true e)
 turned (negsuc n) e = refl
+
+-- a number without its sign
+pub plain-is : (x : ℤ) → negative x ≡ false → x ≡ pos (natAbs x)
+plain-is (pos n) e = refl
+plain-is (negsuc n) e = absurd (false≢true (sym e))
+
+pub turned-is : (x : ℤ) → negative x ≡ true → negℤ x ≡ pos (natAbs x)
+turned-is (pos n) e = absurd (false≢true e)
+turned-is (negsuc n) e = refl

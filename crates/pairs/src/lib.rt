@@ -1,10 +1,12 @@
-// A pair of 16-bit numbers, a weight and a number of a frame: its true product, the size of that and of each number, and whether it holds a
-// zero. No branch of the compiled code depends on the numbers. And how many pairs there are, by the lengths of their slices.
+// A pair of 16-bit numbers, a weight and a number of a frame: its true product, the size of that and of each number, whether that is below 0,
+// and whether the pair holds a zero. No branch of the compiled code depends on the numbers. And how many pairs there are, by the lengths of
+// their slices.
 ghost use mathlib.Core.Path.{_≡_};
 ghost use Prim.Native.Nat.{min, _-_, _^_, _<_};
 ghost use lib.IntN.{natAbs, _*ℤ_};
 ghost use Rattle.designs.specs.Rows.{nonzero};
 ghost use Rattle.pairs.specs.Lengths.{pairsOf};
+ghost use Rattle.pairs.specs.Sizes.{minusSize};
 
 // The true product.
 pub fn true_product(w: i16, x: i16) -> i32
@@ -18,6 +20,16 @@ pub fn true_size(w: i16, x: i16) -> u32
     ensures { λ r. ⌜ r ≡ natAbs (w *ℤ x) ⌝ }
 {
     without_sign(true_product(w, x))
+}
+
+// The size of the true product where that is below 0, otherwise 0.
+pub fn minus_size(w: i16, x: i16) -> u32
+    ensures { λ r. ⌜ r ≡ minusSize (w *ℤ x) ⌝ }
+{
+    if true_product(w, x) < 0 {
+        return true_size(w, x);
+    }
+    0
 }
 
 // The size of a number.

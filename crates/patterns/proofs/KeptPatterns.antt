@@ -115,7 +115,7 @@ module _ (t : ℕ) (ht : t ≤ 15) where
     sum-small = omega (arith, code-small A hw, code-small B hx)
 
     pub truncated-less : (some : 0 < t) (sum r : ℕ) → sum < 2 ^ 32
-        → (sum + 127 * 2 ^ 23) % 2 ^ 32 ≡ (bitAnd (patternOf w) (2 ^ 32 - P) + bitAnd (patternOf x) (2 ^ 32 - P)) % 2 ^ 32
+        → (0 < A → 0 < B → (sum + 127 * 2 ^ 23) % 2 ^ 32 ≡ (bitAnd (patternOf w) (2 ^ 32 - P) + bitAnd (patternOf x) (2 ^ 32 - P)) % 2 ^ 32)
         → r ≡ (sum + cond (ltb (sum % 2 ^ 31) (127 * 2 ^ 23 + t * 2 ^ 23)) 0 P) % 2 ^ 32
         → Less (w *ℤ x) r (signedProduct (truncated t) w x)
     unfolding formula
@@ -136,4 +136,4 @@ module _ (t : ℕ) (ht : t ≤ 15) where
         both : 0 < A → 0 < B → sum ≡ logPattern (unlike (negative w) (negative x)) c
         both pw px =
             log-sum (negative w) (negative x) _ _ sum l (omega (arith, sum-small))
-            (es ∙ ap₂ (λ (p q : ℕ). (p + q) % 2 ^ 32) (cut-at w pw hw) (cut-at x px hx))
+            (es pw px ∙ ap₂ (λ (p q : ℕ). (p + q) % 2 ^ 32) (cut-at w pw hw) (cut-at x px hx))

@@ -1,5 +1,6 @@
 pub mod Values
 pub mod Pair
+pub mod Moved
 pub mod Mitchell
 pub mod ExponentField
 pub mod KeptPatterns

@@ -11,7 +11,7 @@ use Rattle.patterns.specs.Patterns.{Less, patternOf}
 use Rattle.patterns.proofs.Pair.{less, log-sum, pattern-at}
 
 pub mitchell-less : (w x : ℤ) (r : ℕ) → natAbs w ≤ 2 ^ 15 → natAbs x ≤ 2 ^ 15 → r < 2 ^ 32
-    → (r + 127 * 2 ^ 23) % 2 ^ 32 ≡ (patternOf w + patternOf x) % 2 ^ 32 → Less (w *ℤ x) r (signedProduct mitchell w x)
+    → (0 < natAbs w → 0 < natAbs x → (r + 127 * 2 ^ 23) % 2 ^ 32 ≡ (patternOf w + patternOf x) % 2 ^ 32) → Less (w *ℤ x) r (signedProduct mitchell w x)
 unfolding formula
 mitchell-less w x r hw hx l e =
     let small : code 23 (natAbs w) + code 23 (natAbs x) < 2 ^ 30 =
@@ -20,7 +20,7 @@ mitchell-less w x r hw hx l e =
     (λ pw px.
     record {
       c = code 23 (natAbs w) + code 23 (natAbs x);
-      is = log-sum (negative w) (negative x) _ _ r l small (e ∙ ap₂ (λ (p q : ℕ). (p + q) % 2 ^ 32) (pattern-at w pw) (pattern-at x px));
+      is = log-sum (negative w) (negative x) _ _ r l small (e pw px ∙ ap₂ (λ (p q : ℕ). (p + q) % 2 ^ 32) (pattern-at w pw) (pattern-at x px));
       small = small;
       log = scaled 23 (natAbs w) (natAbs x) (omega (arith, hw)) (omega (arith, hx));
     })

@@ -1,6 +1,6 @@
 -- The number that a pattern with a logarithm stands for. Its fields are those of the logarithm, so it has the value that `formats` gives
 -- such fields; and a float of a format with a whole value is the float of that number, read either way. Assumes nothing.
-use mathlib.Core.Path.{_≡_, refl, sym, ap, _∙_}
+use mathlib.Core.Path.{_≡_, refl, sym, ap, _∙_, subst}
 use Prim.Native.Nat.{ℕ, zero, suc, _+_, _*_, _/_, _%_, _^_, _≤_, _<_}
 use native.Mathlib.Nat.{mul-pos}
 use native.Mathlib.Omega.{arith}
@@ -79,17 +79,22 @@ module _ (s : Bool) (c n : ℕ) (h : c < 2 ^ 30) (e : scaledProduct 23 c ≡ 2 ^
   is-float : (f : Format) → n ≤ 2 ^ prec f → T (fits f (ofBits binary32 (logPattern s c))) → ofBits binary32 (logPattern s c) ≡ ofInt f (withSign s n)
   is-float f l t = whole-unique f (ofBits binary32 (logPattern s c)) (ofInt f (withSign s n)) s n t (ofInt-fits f (withSign s n)) value (signed-value f s n positive l)
 
+  is-wide : n ≤ 2 ^ 53 → ofBits binary32 (logPattern s c) ≡ ofInt binary64 (withSign s n)
+  is-wide l = is-float binary64 l (fits-widens (ofBits binary32 (logPattern s c)) (ofBits-fits binary32 (logPattern s c)))
+
   pub stands : n < 2 ^ 31 → Stands (logPattern s c) (withSign s n)
-  stands l =
-      record {
-        float = is-float binary64 (omega arith) (fits-widens (ofBits binary32 (logPattern s c)) (ofBits-fits binary32 (logPattern s c)));
-        small = rw (size-sign s n) l;
-      }
+  stands l = record { float = is-wide (omega arith); small = rw (size-sign s n) l }
+
+  back : toBits binary32 (ofBits binary32 (logPattern s c)) ≡ logPattern s c
+  back = rw fields (bits-back s (127 + c / 2 ^ 23) (c % 2 ^ 23) (omega arith) (omega arith))
 
   bits-are : n ≤ 2 ^ 24 → toBits binary32 (ofInt binary32 (withSign s n)) ≡ logPattern s c
-  bits-are l =
-      ap (toBits binary32) (sym (is-float binary32 l (ofBits-fits binary32 (logPattern s c))))
-      ∙ rw fields (bits-back s (127 + c / 2 ^ 23) (c % 2 ^ 23) (omega arith) (omega arith))
+  bits-are l = ap (toBits binary32) (sym (is-float binary32 l (ofBits-fits binary32 (logPattern s c)))) ∙ back
+
+  -- the same by way of a binary64, which narrows to a binary32 and loses nothing
+  pub narrow-bits : n ≤ 2 ^ 53 → T (fits binary32 (ofInt binary64 (withSign s n))) × (toBits binary32 (ofInt binary64 (withSign s n)) ≡ logPattern s c)
+  narrow-bits l =
+      (subst (λ (x : Float). T (fits binary32 x)) (is-wide l) (ofBits-fits binary32 (logPattern s c)), ap (toBits binary32) (sym (is-wide l)) ∙ back)
 
 pub stands-no-nan : {p : ℕ} {z : ℤ} → Stands p z → T (not (isNan (ofBits binary32 p)))
 stands-no-nan {p} {z} s = rw (s .float) (int-no-nan binary64 z (omega (arith, s .small)))

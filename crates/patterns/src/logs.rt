@@ -1,6 +1,6 @@
 // Numbers to patterns and back.
 ghost use mathlib.Core.Path.{_≡_};
-ghost use Prim.Native.Nat.{ℕ, _+_, _%_, _*_, _^_, _≤_};
+ghost use Prim.Native.Nat.{ℕ, _+_, _%_, _*_, _^_, _≤_, _<_};
 ghost use lib.IntN.{ℤ, pos, natAbs, _-ℤ_};
 ghost use Rattle.patterns.specs.Patterns.{Less, maskedBy, patternOf, Stands};
 
@@ -15,10 +15,16 @@ pub(crate) fn pattern_of(x: i32) -> u32
     f32::to_bits(x as f32)
 }
 
+// 16 in the exponent field.
+const HIGHER: u32 = 16 << 23;
+
+// The pattern of a number that is not 0; of 0, any. It is made of the pattern of x × 2^16, with 16 taken off the exponent: of four x at a time
+// the compiler makes these products by a move to the upper halves of empty registers, where widening each x would begin with a register
+// that still holds something, and so wait for the pairs before.
 pub(crate) fn pattern(x: i16) -> u32
-    ensures { λ r. ⌜ r ≡ patternOf x ⌝ }
+    ensures { λ r. ⌜ (0 < natAbs x → r ≡ patternOf x) ⌝ }
 {
-    pattern_of(x as i32)
+    std::num::wrapping_sub_u32(f32::to_bits((x as i32 * 65536) as f64 as f32), HIGHER)
 }
 
 // The same of a size.

@@ -1,7 +1,7 @@
 -- A row that goes by blocks, by any design. A block takes a part of the row, whose place k is place at + k of the row; so a block that is
--- filled for the part holds the residues of the row's pairs, and can be added. Assumes nothing.
-use mathlib.Core.Path.{_≡_, refl, ap, ap₂, _∙_}
-use Prim.Native.Nat.{ℕ, min, _+_, _-_, _/_, _≤_, _<_}
+-- taken of the part holds the residues of the row's pairs and their sums, and can be added. Assumes nothing.
+use mathlib.Core.Path.{_≡_, refl, sym, ap, ap₂, _∙_, subst}
+use Prim.Native.Nat.{ℕ, min, _+_, _-_, _≤_, _<_}
 use native.Mathlib.Omega.{arith}
 use mathlib.Core.List.{List}
 use lib.IntN.{ℤ, pos}
@@ -9,14 +9,15 @@ use lib.ListN.{length, take, drop, length-drop}
 use lib.Seq.{getD-take, getD-drop, length-take-le}
 use Rattle.designs.specs.Designs.{Design, staged}
 use Rattle.designs.specs.Signs.{leftℤ, residue}
-use Rattle.pairs.specs.Lengths.{pairsOf}
 use Rattle.patterns.specs.Blocks.{place}
 use Rattle.patterns.proofs.Blocks.{in-first}
-use Rattle.blocks.specs.Residues.{Filled, FilledByStages, ofPair}
+use Rattle.blocks.specs.Residues.{ofPair}
+use Rattle.blocks.specs.Sums.{Adds, Taken, taken, TakenByStages}
+use Rattle.blocks.specs.declared.sums.BlockSums.{BlockSums}
+use Rattle.blocks.proofs.Adding.{added-as}
 use Rattle.rows.specs.Answers.{Ready}
-use Rattle.rows.specs.Totals.{Addable, Reached}
+use Rattle.rows.specs.Totals.{Addable, Going, Reached}
 use Rattle.rows.specs.declared.sums.Sums.{Sums}
-use Rattle.rows.proofs.OneByOne.{Going}
 
 -- the numbers from `from` up to `end`, as the code lends them
 abbrev part : List ℤ → ℕ → ℕ → List ℤ
@@ -30,11 +31,12 @@ module _ (ws : List ℤ) (from end : ℕ) (inside : end ≤ length ws) where
   part-at k h = getD-take (end - from) (drop from ws) k (pos 0) h ∙ getD-drop from ws k (pos 0)
 
 -- the next n pairs can be added from a block
-abbrev pub NextBlock : Design → List ℤ → List ℤ → List ℤ → List ℤ → ℕ → Sums → ℕ → List ℤ → Type 0
-NextBlock D ws fs before after at s n block = Addable (ofPair (residue D) ws fs) s ws fs block before after at (at + n)
+abbrev pub NextBlock : Design → List ℤ → List ℤ → List ℤ → List ℤ → ℕ → Sums → ℕ → BlockSums → List ℤ → Type 0
+NextBlock D ws fs before after at s n all block = Addable (ofPair (residue D) ws fs) ws fs before after s all block at (at + n)
 
--- they are at most 32
-module _ {D : Design} {ws fs before after : List ℤ} {at n : ℕ} {s : Sums} (ready : Ready D ws fs before) (so-far : Going D ws fs before after at s) (count : n ≡ min (length ws - at) 32) where
+-- they are at most 64, and go no further than pair `to`
+module _ {D : Design} {ws fs before after : List ℤ} {at n to : ℕ} {s : Sums} (ready : Ready D ws fs before) (within : to ≤ length ws) (so-far : Going D ws fs before after at s)
+    (count : n ≡ min (to - at) 64) where
   abbrev end : ℕ
   end = at + n
 
@@ -44,47 +46,60 @@ module _ {D : Design} {ws fs before after : List ℤ} {at n : ℕ} {s : Sums} (r
   in-frame : end ≤ length fs
   in-frame = omega (arith, in-row, ready .lengths)
 
-  -- a place of the block that has a pair's residue
-  abbrev Holds : List ℤ → ℕ → Type 0
-  Holds block k = place block k ≡ ofPair (residue D) (part ws at end) (part fs at end) k
+  -- the part that the block takes
+  abbrev us : List ℤ
+  us = part ws at end
 
-  addable : {block : List ℤ} → 32 ≤ length block → ((k : ℕ) → k < end - at → Holds block k) → NextBlock D ws fs before after at s n block
-  addable room holds =
+  abbrev vs : List ℤ
+  vs = part fs at end
+
+  all-taken : taken us vs ≡ end - at
+  all-taken = omega (arith, part-length ws at end in-row, part-length fs at end in-frame)
+
+  addable : {all : BlockSums} {block : List ℤ} → 64 ≤ length block → ((k : ℕ) → k < taken us vs → place block k ≡ ofPair (residue D) us vs k)
+      → Adds (ofPair (residue D) us vs) (place us) (place vs) (taken us vs) all → NextBlock D ws fs before after at s n all block
+  addable {all} room holds adds =
+      let weight = part-at ws at end in-row in
+      let number = part-at fs at end in-frame in
       record {
         reached = so-far .reached;
-        upward = omega arith;
-        weights = in-row;
-        frame = in-frame;
-        pairs = omega (arith, in-row, ready .pairs);
+        in-block =
+            record {
+              upward = omega arith;
+              pairs = omega (arith, in-row, ready .pairs);
+              few = omega arith;
+              places = omega arith;
+              filled = λ k h. holds k (omega (arith, all-taken)) ∙ ap₂ (residue D) (weight k h) (number k h);
+            };
         room = omega (arith, in-row, ready .places);
-        in-block = omega arith;
-        filled = λ k h. holds k h ∙ ap₂ (residue D) (part-at ws at end in-row k h) (part-at fs at end in-frame k h);
+        adds = added-as (λ k h. (ap₂ (residue D) (weight k h) (number k h), weight k h, number k h)) (rw all-taken at adds);
       }
 
-  -- filled by a design that has another name too
-  pub filled-as : {E : Design} → E ≡ D → {block block' : List ℤ} → length block ≡ 32 → Filled E (part ws at end) (part fs at end) block block' → NextBlock D ws fs before after at s n block'
-  filled-as same room by =
-      addable (omega (arith, by .size))
-      (λ k h. by .first k (omega (arith, part-length ws at end in-row, part-length fs at end in-frame))
-      ∙ ap (λ (X : Design). ofPair (residue X) (part ws at end) (part fs at end) k) same)
+  -- taken by a design that has another name too
+  pub taken-as : {E : Design} → E ≡ D → {all : BlockSums} {block block' : List ℤ} → length block ≡ 64 → Taken E us vs block block' all → NextBlock D ws fs before after at s n all block'
+  taken-as same room by =
+      let here = rw same at by in
+      addable (omega (arith, by .filled .size)) (λ k h. here .filled .first k h) (here .adds)
 
-  pub filled : {block block' : List ℤ} → length block ≡ 32 → Filled D (part ws at end) (part fs at end) block block' → NextBlock D ws fs before after at s n block'
-  filled = filled-as refl
+  pub taken-by : {all : BlockSums} {block block' : List ℤ} → length block ≡ 64 → Taken D us vs block block' all → NextBlock D ws fs before after at s n all block'
+  taken-by = taken-as refl
 
-  pub on : {after : List ℤ} {s : Sums} → Reached (ofPair (residue D) ws fs) ws fs before after end s → Going D ws fs before after end s
-  on reached = record { inside = in-row; reached = reached }
+  pub on : at ≤ to → {after : List ℤ} {s : Sums} → Reached (ofPair (residue D) ws fs) ws fs before after end s → (end ≤ to) × Going D ws fs before after end s
+  on h reached = (omega arith, record { inside = in-row; reached = reached })
 
-  pub fewer-left : at < length ws → length ws - end < length ws - at
+  pub fewer-left : at < to → to - end < to - at
   fewer-left h = omega arith
 
 -- by stages a pair has two places
-pub filled-by-stages : {t : ℕ} {ws fs before after block block' : List ℤ} {at n : ℕ} {s : Sums} → Ready (staged t) ws fs before → Going (staged t) ws fs before after at s
-    → n ≡ min (length ws - at) 32 → length block ≡ 64 → FilledByStages t (part ws at (at + n)) (part fs at (at + n)) block block' → NextBlock (staged t) ws fs before after at s n block'
-filled-by-stages {t} {ws} {fs} {block = block} {at = at} {n} ready so-far count room by =
-    let us = part ws at (at + n) in
-    let vs = part fs at (at + n) in
-    let all = pairsOf (length us) (length vs) (length block / 2) in
-    let few : n ≤ all =
-    omega (arith, part-length ws at (at + n) (in-row ready so-far count), part-length fs at (at + n) (in-frame ready so-far count)) in
-    addable ready so-far count (omega (arith, by .size))
-    (λ k h. by .first k (omega arith) ∙ in-first all (ofPair (residue (staged t)) us vs) (λ i. leftℤ t (place vs i)) k (omega arith))
+pub taken-by-stages : {t : ℕ} {ws fs before after block block' : List ℤ} {at n to : ℕ} {s : Sums} {all : BlockSums} (ready : Ready (staged t) ws fs before) (within : to ≤ length ws)
+    (so-far : Going (staged t) ws fs before after at s) (count : n ≡ min (to - at) 64) → length block ≡ 128
+    → TakenByStages t (us ready within so-far count) (vs ready within so-far count) block block' all → NextBlock (staged t) ws fs before after at s n all block'
+taken-by-stages {t} ready within so-far count room by =
+    let us' = us ready within so-far count in
+    let vs' = vs ready within so-far count in
+    addable ready within so-far count (omega (arith, by .filled .size))
+    (λ k h. by .filled .first k (omega arith) ∙ in-first (taken us' vs') (ofPair (residue (staged t)) us' vs') (λ i. leftℤ t (place vs' i)) k h) (by .adds)
+
+-- as far as it should go
+pub there : {D : Design} {ws fs before after : List ℤ} {at to : ℕ} {s : Sums} → at ≤ to → to ≤ at → Going D ws fs before after at s → Going D ws fs before after to s
+there {D} {ws} {fs} {before} {after} {at} {to} {s} h l so-far = let end : at ≡ to = omega arith in subst (λ (n : ℕ). Going D ws fs before after n s) end so-far

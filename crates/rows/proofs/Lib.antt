@@ -1,5 +1,7 @@
 pub mod Turn
 pub mod Whole
+pub mod Block
+pub mod First
 pub mod Pair
 pub mod SmallSums
 pub mod OneByOne

@@ -16,14 +16,9 @@ use Rattle.pairs.proofs.Integers.{read-back}
 use Rattle.patterns.specs.Blocks.{place}
 use Rattle.blocks.specs.Residues.{ofPair}
 use Rattle.rows.specs.Answers.{Ready}
-use Rattle.rows.specs.Totals.{Complete, noSums, Reached, Turnable}
+use Rattle.rows.specs.Totals.{Complete, Going, noSums, Reached, Turnable}
 use Rattle.rows.specs.declared.sums.Sums.{Sums}
 use Rattle.rows.proofs.Turn.{nothing}
-
--- what the loops keep
-pub record Going (D : Design) (ws fs before after : List ℤ) (at : ℕ) (s : Sums) : Type 0 where
-  pub inside : at ≤ length ws
-  pub reached : Reached (ofPair (residue D) ws fs) ws fs before after at s
 
 -- what a turn asks of the next pair, as it is read, and of its residue, as a callee gives it
 abbrev pub NextPair : Design → List ℤ → List ℤ → List ℤ → List ℤ → ℕ → Sums → ℤ → Type 0

@@ -17,13 +17,13 @@ use Rattle.designs.specs.Products.{designOf, isDesign, takesSetting}
 use Rattle.designs.specs.Rows.{Report, report, residues}
 use Rattle.designs.specs.Scoring.{rowRefusals, rowWidth, rowRefusal, rowOutcome, rowWritten, writtenUnless}
 use Rattle.designs.specs.Demand.{Demand}
-use Rattle.designs.proofs.Cases.{by-bool, either-lt}
+use Rattle.designs.proofs.Cases.{by-bool, by-lt, either-lt}
 use Rattle.designs.proofs.Demand.{demand}
 use Rattle.designs.proofs.Refusals.{none, refuses, gives}
 use Rattle.designs.proofs.Settings.{by-design, keeps}
 use Rattle.patterns.specs.Patterns.{clamped}
-use Rattle.rows.specs.Answers.{reportOf, Ready, Scoring, Small}
-use Rattle.rows.specs.Totals.{Complete, reportBy, Roomy}
+use Rattle.rows.specs.Answers.{inBlocks, reportOf, Ready, Scoring, Small}
+use Rattle.rows.specs.Totals.{Complete, Going, Ongoing, reportBy, Roomy}
 use Rattle.rows.specs.declared.Scored.the-variants as S
 use Rattle.rows.specs.declared.RowReport.{RowReport}
 use Rattle.rows.specs.declared.sums.Sums.{Sums}
@@ -78,9 +78,16 @@ module _ (design setting : ℕ) (ws fs before : List ℤ) where
           places = ltb-false (length before) (length ws) (tests 4);
         }
 
+    -- the blocks take the first pairs, and the others are gone on with
+    pub begins : {to : ℕ} → to ≡ inBlocks (length ws) → Ready D ws fs before × (to ≤ length ws)
+    begins {to} e = (ready, rw e (by-lt (λ (k : ℕ). k ≤ length ws) (length ws) 8 (λ h. omega arith) (λ h. omega arith)))
+
+    pub goes-on : {after : List ℤ} {to : ℕ} {s : Sums} → Going D ws fs before after to s → Ongoing D ws fs before after to s
+    goes-on going = record { ready = ready; going = going }
+
     module _ {after : List ℤ} {s : Sums} (all : Complete D ws fs before after s) where
       pub room : Roomy s × (s .«zero_pairs» ≤ length ws)
-      room = (roomy all (ready .pairs), omega (arith, all .pairs-is))
+      room = (roomy all (ready .pairs), omega (arith, all .truth .pairs-is))
 
       pub score : {r : RowReport} → reportOf r ≡ reportBy s (length ws) → Scoring design setting ws fs before after (S.Report r)
       unfolding rowOutcome rowWritten rowRefusal
@@ -91,7 +98,7 @@ module _ (design setting : ℕ) (ws fs before : List ℤ) where
                 whole-residues D ws fs before after s (ready .lengths) (ready .places) all ∙ ap (λ (k : ℕ). residues D ws fs ++ drop k before) (sym (residues-length ws fs (ready .lengths) D))
                 ∙ ap (λ (k : ℕ). writtenUnless k (residues D ws fs) before) (sym z ∙ e);
             demand = λ q p. subst (Demand D ws fs) (sym is ∙ same q p) (demand D ws fs);
-            small = λ q p. subst Small (sym is ∙ same q p) (small D (keeps design rowWidth setting (passed .0) (passed .1)) ws fs (ready .lengths) (ready .pairs) (all .fits));
+            small = λ q p. subst Small (sym is ∙ same q p) (small D (keeps design rowWidth setting (passed .0) (passed .1)) ws fs (ready .lengths) (ready .pairs) (all .truth .fits));
           }
         where
           is : reportOf r ≡ report D ws fs

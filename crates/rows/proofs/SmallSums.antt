@@ -1,8 +1,6 @@
--- The sums of a row of 16-bit numbers are small: a total over n pairs is at most n times what bounds each, and at most 4,096 pairs of at
--- most 2^31 − 1 each stay below 2^43. Assumes nothing.
+-- The sums of a row of 16-bit numbers are small: at most 4,096 pairs of at most 2^31 − 1 each stay below 2^43. Assumes nothing.
 use mathlib.Core.Path.{_≡_, ap}
-use Prim.Native.Nat.{ℕ, zero, suc, _*_, _^_, _≤_, _<_}
-use native.Mathlib.Nat.{suc-mul}
+use Prim.Native.Nat.{ℕ, _^_, _≤_, _<_}
 use native.Mathlib.Omega.{arith}
 use mathlib.Core.List.{List}
 use lib.IntN.{ℤ, pos, natAbs, _*ℤ_}
@@ -11,22 +9,11 @@ use Rattle.designs.specs.Designs.{Design, KeepsBit}
 use Rattle.designs.specs.Rows.{report}
 use Rattle.designs.specs.Signs.{residue, signedProduct}
 use Rattle.designs.proofs.RowSums.{sum-minus}
-use Rattle.designs.proofs.Sizes.{size-add}
 use Rattle.rows.specs.Answers.{Fits16, Small}
 use Rattle.blocks.specs.Residues.{ofPair}
-use Rattle.rows.specs.Totals.{total, count}
+use Rattle.blocks.proofs.Counts.{count-size, total-size}
 use Rattle.rows.proofs.Pair.{Bounds, bounds, most}
 use Rattle.rows.proofs.Whole.{wholeℤ, wholeℕ}
-
-total-size : (f : ℕ → ℤ) (b n : ℕ) → ((k : ℕ) → k < n → natAbs (f k) ≤ b) → natAbs (total f n) ≤ n * b
-unfolding total
-total-size f b zero h = omega arith
-total-size f b (suc n) h = omega (arith, size-add (total f n) (f n), total-size f b n (λ k g. h k (omega arith)), h n (omega arith), suc-mul n b)
-
-count-size : (f : ℕ → ℕ) (b n : ℕ) → ((k : ℕ) → k < n → f k ≤ b) → count f n ≤ n * b
-unfolding count
-count-size f b zero h = omega arith
-count-size f b (suc n) h = omega (arith, count-size f b n (λ k g. h k (omega arith)), h n (omega arith), suc-mul n b)
 
 module _ (D : Design) (keeps : KeepsBit D) (ws fs : List ℤ) (same : length ws ≡ length fs) (few : length ws ≤ 4096)
     (fits : (k : ℕ) → k < length ws → Fits16 ws fs k) where

@@ -1,7 +1,9 @@
 -- What an answer of a row says, and what it promises. Definitions only.
 use mathlib.Core.Path.{_≡_}
-use Prim.Native.Nat.{ℕ, _^_, _≤_, _<_}
+use mathlib.Core.Bool.{cond}
+use Prim.Native.Nat.{ℕ, _*_, _/_, _^_, _≤_, _<_}
 use mathlib.Core.List.{List}
+use lib.Dec.{ltb}
 use lib.IntN.{ℤ, pos, natAbs}
 use lib.ListN.{length, getD}
 use mir.Syntax.{w16}
@@ -18,7 +20,16 @@ use Rattle.rows.specs.declared.Scored.{Scored}
 use Rattle.rows.specs.declared.Scored.the-variants as S
 
 abbrev pub reportOf : RowReport → Report
-reportOf r = record { score = r .score; trueSum = r .«true_sum»; error = r .error; magnitudeSum = r .«magnitude_sum»; nonzeroPairs = r .«nonzero_pairs» }
+reportOf r =
+    record {
+      score = r .score;
+      trueSum = r .«true_sum»;
+      error = r .error;
+      magnitudeSum = r .«magnitude_sum»;
+      nonzeroPairs = r .«nonzero_pairs»;
+      largestResidue = r .«largest_residue»;
+      largestPlace = r .«largest_place»;
+    }
 
 abbrev pub given : Scored → Outcome Report
 given (S.Report r) = accepted (reportOf r)
@@ -49,3 +60,7 @@ pub record Ready (D : Design) (ws fs before : List ℤ) : Type 0 where
   pub lengths : length ws ≡ length fs
   pub pairs : length ws ≤ 4096
   pub places : length ws ≤ length before
+
+-- how many of n pairs go by blocks
+abbrev pub inBlocks : ℕ → ℕ
+inBlocks n = cond (ltb n 8) 0 (n / 4 * 4)

@@ -2,15 +2,17 @@
 // residue of each pair goes to a slice that the caller lends.
 ghost use mathlib.Core.Path.{_≡_};
 ghost use Rattle.designs.specs.Rows.{emptyReport};
-ghost use Rattle.rows.specs.Answers.{Scoring, reportOf};
+ghost use Rattle.rows.specs.Answers.{inBlocks, Scoring, reportOf};
 
 mod by_blocks;
 mod one_by_one;
 mod sums;
+mod worst;
 
 use crate::sums::report_of;
 
-// The report of a row: `magnitude_sum` is the scope's T, and `nonzero_pairs` its n. It is laid out as C has it.
+// The report of a row: `magnitude_sum` is the scope's T, and `nonzero_pairs` its n. `largest_residue` is the largest size of a residue, and
+// `largest_place` the first place that has it. It is laid out as C has it.
 #[repr(C)]
 pub struct RowReport {
     pub score: i64,
@@ -18,6 +20,8 @@ pub struct RowReport {
     pub error: i64,
     pub magnitude_sum: u64,
     pub nonzero_pairs: u64,
+    pub largest_residue: u64,
+    pub largest_place: u64,
 }
 
 impl RowReport {
@@ -31,6 +35,8 @@ impl RowReport {
             error: 0,
             magnitude_sum: 0,
             nonzero_pairs: 0,
+            largest_residue: 0,
+            largest_place: 0,
         }
     }
 }
@@ -42,7 +48,18 @@ pub enum Scored {
 }
 
 // Rows of fewer pairs take less time one by one than by a block.
-const FEW: usize = 4;
+const FEW: usize = 8;
+
+// How many of so many pairs go by blocks: those of whole fours, since the compiler takes four at a time, and none of a few. The others go one by
+// one, each in one loop, where a block would have three for them.
+fn in_blocks(pairs: usize) -> usize
+    ensures { λ r. ⌜ r ≡ inBlocks pairs ⌝ }
+{
+    if pairs < FEW {
+        return 0;
+    }
+    pairs / 4 * 4
+}
 
 // Scores a row by the design that is asked for. Place i of `residues` gets what pair i leaves; a refused row leaves every place as it was.
 pub fn score_row(
@@ -85,10 +102,10 @@ pub fn score_row_mitchell(
     if refusal != 0 {
         return Scored::Refused(refusal);
     }
-    Scored::Report(report_of(
-        one_by_one::mitchell(weights, frame, residues),
-        weights.len(),
-    ))
+    let to = in_blocks(weights.len());
+    let first = by_blocks::mitchell(to, weights, frame, residues);
+    let sums = one_by_one::mitchell(first, to, weights, frame, residues);
+    Scored::Report(report_of(sums, weights.len()))
 }
 
 // By design 2 alone, the nearest power, which takes the setting 0.
@@ -104,13 +121,10 @@ pub fn score_row_nearest(
     if refusal != 0 {
         return Scored::Refused(refusal);
     }
-    if weights.len() < FEW {
-        return Scored::Report(report_of(
-            one_by_one::nearest(weights, frame, residues),
-            weights.len(),
-        ));
-    }
-    Scored::Report(report_of(by_blocks::nearest(weights, frame, residues), weights.len()))
+    let to = in_blocks(weights.len());
+    let first = by_blocks::nearest(to, weights, frame, residues);
+    let sums = one_by_one::nearest(first, to, weights, frame, residues);
+    Scored::Report(report_of(sums, weights.len()))
 }
 
 // By design 3 alone; the setting is the number of stages.
@@ -126,16 +140,10 @@ pub fn score_row_staged(
     if refusal != 0 {
         return Scored::Refused(refusal);
     }
-    if weights.len() < FEW {
-        return Scored::Report(report_of(
-            one_by_one::staged(setting, weights, frame, residues),
-            weights.len(),
-        ));
-    }
-    Scored::Report(report_of(
-        by_blocks::staged(setting, weights, frame, residues),
-        weights.len(),
-    ))
+    let to = in_blocks(weights.len());
+    let first = by_blocks::staged(setting, to, weights, frame, residues);
+    let sums = one_by_one::staged(setting, first, to, weights, frame, residues);
+    Scored::Report(report_of(sums, weights.len()))
 }
 
 // By design 4 alone; the setting is the number of kept bits.
@@ -151,10 +159,10 @@ pub fn score_row_truncated(
     if refusal != 0 {
         return Scored::Refused(refusal);
     }
-    Scored::Report(report_of(
-        one_by_one::truncated(setting, weights, frame, residues),
-        weights.len(),
-    ))
+    let to = in_blocks(weights.len());
+    let first = by_blocks::truncated(setting, to, weights, frame, residues);
+    let sums = one_by_one::truncated(setting, first, to, weights, frame, residues);
+    Scored::Report(report_of(sums, weights.len()))
 }
 
 // By design 5 alone; the setting is the number of bits that its first stage keeps.
@@ -170,14 +178,8 @@ pub fn score_row_twice_truncated(
     if refusal != 0 {
         return Scored::Refused(refusal);
     }
-    if weights.len() < FEW {
-        return Scored::Report(report_of(
-            one_by_one::twice_truncated(setting, weights, frame, residues),
-            weights.len(),
-        ));
-    }
-    Scored::Report(report_of(
-        by_blocks::twice_truncated(setting, weights, frame, residues),
-        weights.len(),
-    ))
+    let to = in_blocks(weights.len());
+    let first = by_blocks::twice_truncated(setting, to, weights, frame, residues);
+    let sums = one_by_one::twice_truncated(setting, first, to, weights, frame, residues);
+    Scored::Report(report_of(sums, weights.len()))
 }

@@ -1,19 +1,24 @@
-// Going over a row pair by pair, a loop for each design. Of those of designs 1 and 4 the compiler makes loops for several pairs at a time, so
-// they serve rows of any length; designs 2, 3 and 5 go by blocks where there are more than a few pairs.
+// Going over the rest of a row one by one, a loop for each design: what is left of the fours, or all of a few pairs.
+ghost use mathlib.Core.List.{List};
+ghost use lib.IntN.{ℤ};
 ghost use Rattle.designs.specs.Designs.{mitchell, nearest, staged, truncated, twiceTruncated};
-ghost use Rattle.rows.specs.Answers.{Ready};
-ghost use Rattle.rows.specs.Totals.{Complete};
+ghost use Rattle.rows.specs.Totals.{Complete, Ongoing};
 use crate::sums::Sums;
-use crate::sums::no_sums;
 use crate::sums::turn;
 
-// By design 1.
-pub(crate) fn mitchell(weights: &[i16], frame: &[i16], residues: &mut [i64]) -> Sums
-    requires { ⌜ Ready mitchell (now weights) (now frame) (now residues) ⌝ }
-    ensures { λ r. ⌜ Complete mitchell (now (weights .entry)) (now (frame .entry)) (now (residues .entry)) (now (residues .exit)) r ⌝ }
+// By design 1, with the sums of the pairs before `from`.
+pub(crate) fn mitchell(
+    before: Sums,
+    from: usize,
+    weights: &[i16],
+    frame: &[i16],
+    residues: &mut [i64],
+) -> Sums
+    requires { ⌜ ((places : List ℤ) × Ongoing mitchell (now weights) (now frame) places (now residues) from before) ⌝ }
+    ensures { λ r. ⌜ ((places : List ℤ) → Ongoing mitchell (now (weights .entry)) (now (frame .entry)) places (now (residues .entry)) from before → Complete mitchell (now (weights .entry)) (now (frame .entry)) places (now (residues .exit)) r) ⌝ }
 {
-    let mut sums = no_sums();
-    let mut at = 0;
+    let mut sums = before;
+    let mut at = from;
     while at < weights.len() {
         let w = weights[at];
         let x = frame[at];
@@ -24,13 +29,19 @@ pub(crate) fn mitchell(weights: &[i16], frame: &[i16], residues: &mut [i64]) -> 
     sums
 }
 
-// By design 2.
-pub(crate) fn nearest(weights: &[i16], frame: &[i16], residues: &mut [i64]) -> Sums
-    requires { ⌜ Ready nearest (now weights) (now frame) (now residues) ⌝ }
-    ensures { λ r. ⌜ Complete nearest (now (weights .entry)) (now (frame .entry)) (now (residues .entry)) (now (residues .exit)) r ⌝ }
+// By design 2, with the sums of the pairs before `from`.
+pub(crate) fn nearest(
+    before: Sums,
+    from: usize,
+    weights: &[i16],
+    frame: &[i16],
+    residues: &mut [i64],
+) -> Sums
+    requires { ⌜ ((places : List ℤ) × Ongoing nearest (now weights) (now frame) places (now residues) from before) ⌝ }
+    ensures { λ r. ⌜ ((places : List ℤ) → Ongoing nearest (now (weights .entry)) (now (frame .entry)) places (now (residues .entry)) from before → Complete nearest (now (weights .entry)) (now (frame .entry)) places (now (residues .exit)) r) ⌝ }
 {
-    let mut sums = no_sums();
-    let mut at = 0;
+    let mut sums = before;
+    let mut at = from;
     while at < weights.len() {
         let w = weights[at];
         let x = frame[at];
@@ -41,13 +52,20 @@ pub(crate) fn nearest(weights: &[i16], frame: &[i16], residues: &mut [i64]) -> S
     sums
 }
 
-// By design 3.
-pub(crate) fn staged(stages: u32, weights: &[i16], frame: &[i16], residues: &mut [i64]) -> Sums
-    requires { ⌜ Ready (staged stages) (now weights) (now frame) (now residues) ⌝ }
-    ensures { λ r. ⌜ Complete (staged stages) (now (weights .entry)) (now (frame .entry)) (now (residues .entry)) (now (residues .exit)) r ⌝ }
+// By design 3, with the sums of the pairs before `from`.
+pub(crate) fn staged(
+    stages: u32,
+    before: Sums,
+    from: usize,
+    weights: &[i16],
+    frame: &[i16],
+    residues: &mut [i64],
+) -> Sums
+    requires { ⌜ ((places : List ℤ) × Ongoing (staged stages) (now weights) (now frame) places (now residues) from before) ⌝ }
+    ensures { λ r. ⌜ ((places : List ℤ) → Ongoing (staged stages) (now (weights .entry)) (now (frame .entry)) places (now (residues .entry)) from before → Complete (staged stages) (now (weights .entry)) (now (frame .entry)) places (now (residues .exit)) r) ⌝ }
 {
-    let mut sums = no_sums();
-    let mut at = 0;
+    let mut sums = before;
+    let mut at = from;
     while at < weights.len() {
         let w = weights[at];
         let x = frame[at];
@@ -58,18 +76,20 @@ pub(crate) fn staged(stages: u32, weights: &[i16], frame: &[i16], residues: &mut
     sums
 }
 
-// By design 4. What the kept bits alone decide, the compiler works out before the loop.
+// By design 4, with the sums of the pairs before `from`.
 pub(crate) fn truncated(
     kept_bits: u32,
+    before: Sums,
+    from: usize,
     weights: &[i16],
     frame: &[i16],
     residues: &mut [i64],
 ) -> Sums
-    requires { ⌜ Ready (truncated «kept_bits») (now weights) (now frame) (now residues) ⌝ }
-    ensures { λ r. ⌜ Complete (truncated «kept_bits») (now (weights .entry)) (now (frame .entry)) (now (residues .entry)) (now (residues .exit)) r ⌝ }
+    requires { ⌜ ((places : List ℤ) × Ongoing (truncated «kept_bits») (now weights) (now frame) places (now residues) from before) ⌝ }
+    ensures { λ r. ⌜ ((places : List ℤ) → Ongoing (truncated «kept_bits») (now (weights .entry)) (now (frame .entry)) places (now (residues .entry)) from before → Complete (truncated «kept_bits») (now (weights .entry)) (now (frame .entry)) places (now (residues .exit)) r) ⌝ }
 {
-    let mut sums = no_sums();
-    let mut at = 0;
+    let mut sums = before;
+    let mut at = from;
     while at < weights.len() {
         let w = weights[at];
         let x = frame[at];
@@ -80,18 +100,20 @@ pub(crate) fn truncated(
     sums
 }
 
-// By design 5.
+// By design 5, with the sums of the pairs before `from`.
 pub(crate) fn twice_truncated(
     kept_bits: u32,
+    before: Sums,
+    from: usize,
     weights: &[i16],
     frame: &[i16],
     residues: &mut [i64],
 ) -> Sums
-    requires { ⌜ Ready (twiceTruncated «kept_bits») (now weights) (now frame) (now residues) ⌝ }
-    ensures { λ r. ⌜ Complete (twiceTruncated «kept_bits») (now (weights .entry)) (now (frame .entry)) (now (residues .entry)) (now (residues .exit)) r ⌝ }
+    requires { ⌜ ((places : List ℤ) × Ongoing (twiceTruncated «kept_bits») (now weights) (now frame) places (now residues) from before) ⌝ }
+    ensures { λ r. ⌜ ((places : List ℤ) → Ongoing (twiceTruncated «kept_bits») (now (weights .entry)) (now (frame .entry)) places (now (residues .entry)) from before → Complete (twiceTruncated «kept_bits») (now (weights .entry)) (now (frame .entry)) places (now (residues .exit)) r) ⌝ }
 {
-    let mut sums = no_sums();
-    let mut at = 0;
+    let mut sums = before;
+    let mut at = from;
     while at < weights.len() {
         let w = weights[at];
         let x = frame[at];

@@ -1,8 +1,7 @@
 // The figures of docs/SCOPE.md, "Figures to hold the designs to", that have no star, and what the sentences under the table say, as
 // lines like those of the vectors. Two kinds are of the figures alone:
 // q DESIGN WIDTH SETTING A REFUSAL PRODUCT RESIDUE: the product of A and A, and the residue that it leaves of the true product.
-// n PAIRS REFUSAL SCORE TRUE ERROR T N RESIDUES: so many pairs (1, 1) by design 1, and of the residues only how many they are.
-use crate::field::I64;
+// n PAIRS REFUSAL SCORE TRUE ERROR T N LARGEST PLACE RESIDUES: so many pairs (1, 1) by design 1, and of the residues only how many they are.
 use crate::field::u32_of;
 use crate::fields::Fields;
 use crate::fields::none;
@@ -12,13 +11,15 @@ use crate::product_vectors::is_unsigned_due;
 use crate::row_vectors::LONGEST;
 use crate::row_vectors::ROOM;
 use crate::row_vectors::count_at;
+use crate::row_vectors::due_after;
 use crate::row_vectors::is_due;
 use crate::tally::Tally;
 
 // In their order: the table's rows; that design 3 at width 8 takes 8 stages, and neither 0 nor 9; that design 5 there keeps 7 bits, and
 // neither 0 nor 8, and that 6 is no design; that width 8 takes −128, and which of two operands it does not take, 128 signed or 256
-// unsigned, also beside a wrong setting; the limits of width 12, and the numbers beside it that are no widths; the starred row; that 4,096
-// pairs are scored, and 4,097 not; that −20 over 2^3 is handed out as −2.5, and T 39 then as 4.875; the singles.
+// unsigned, also beside a wrong setting; the limits of width 12, and the numbers beside it that are no widths; the starred row, a row with two
+// largest residues and one whose residues are 0; that 4,096 pairs are scored, and 4,097 not; that −20 over 2^3 is handed out as −2.5, and T 39
+// then as 4.875; the singles.
 pub fn run() -> Tally {
     lines::count(
         b"q 1 8 0 255 0 65024 1
@@ -65,9 +66,11 @@ s 1 12 0 5 -2049 20 0
 u 1 10 0 5 6 2 0
 u 1 11 0 5 6 2 0
 u 1 13 0 5 6 2 0
-r 1 0 3 3 -5 0 3 3 6 7 3 0 -20 -21 -1 39 2 3 1 -2 0
-n 4096 0 4096 4096 0 4096 4096 4096
-n 4097 6 0 0 0 0 0 0
+r 1 0 3 3 -5 0 3 3 6 7 3 0 -20 -21 -1 39 2 2 1 3 1 -2 0
+r 1 0 4 3 -5 5 3 4 3 6 6 3 4 0 16 18 2 78 4 2 1 4 1 -2 2 1
+r 1 0 2 0 1 2 7 4 2 0 4 4 0 4 1 0 0 2 0 0
+n 4096 0 4096 4096 0 4096 4096 0 0 4096
+n 4097 6 0 0 0 0 0 0 0 0
 h -20 39 3 0 13836183955189006336 4617174780473245696
 f 1067450368 1067450368 0 1069547520
 f 12582912 1061158912 0 8388608
@@ -100,6 +103,6 @@ pub fn is_row_of_ones(line: &[u8]) -> bool {
 fn is_scored(line: &[u8], ones: &[i16]) -> bool {
     let mut residues = [0i64; ROOM];
     let given = rows::score_row(1, 0, ones, ones, &mut residues);
-    let due = read(line, read(line, none(1), 1, LONGEST), 7, I64);
-    (due.next == line.len()) & is_due(given, ones.len() as u64, due)
+    let due = due_after(line, read(line, none(1), 1, LONGEST).next);
+    (due.last.next == line.len()) & is_due(given, ones.len() as u64, due)
 }

@@ -16,7 +16,7 @@ mod table;
 mod tally;
 
 // More than the vectors take.
-const CAPACITY: usize = 1048576;
+const CAPACITY: usize = 2097152;
 
 fn main() {
     tally::print(b"figures: ", b" compared, ", figures::run());

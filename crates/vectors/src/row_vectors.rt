@@ -1,6 +1,6 @@
-// Vectors of rows, DESIGN SETTING WEIGHTS FRAME PLACES REFUSAL SCORE TRUE ERROR T N RESIDUES after the kind `r`. WEIGHTS, FRAME and
-// RESIDUES are lists, each a length and so many numbers. PLACES is the length of the residue slice. The row by the design is due, and, if
-// there is such a design, the design's row by itself.
+// Vectors of rows, DESIGN SETTING WEIGHTS FRAME PLACES REFUSAL SCORE TRUE ERROR T N LARGEST PLACE RESIDUES after the kind `r`. WEIGHTS, FRAME
+// and RESIDUES are lists, each a length and so many numbers. PLACES is the length of the residue slice. The row by the design is due, and,
+// if there is such a design, the design's row by itself.
 ghost use Prim.Native.Nat.{_≤_};
 use crate::field::I16;
 use crate::field::I64;
@@ -117,35 +117,41 @@ fn are_given(
     pairs: u64,
     places: &[i64; ROOM],
 ) -> bool {
-    let due = read(line, read(line, none(start), 1, LONGEST), 7, I64);
-    is_due(given, pairs, due) & are_due(line, due.next, due.g, places)
+    let due = due_after(line, read(line, none(start), 1, LONGEST).next);
+    is_due(given, pairs, due) & are_due(line, due.last.next, due.last.g, places)
+}
+
+// What a line says is due: REFUSAL SCORE TRUE ERROR T N, and LARGEST PLACE and how many residues.
+pub struct Due {
+    pub first: Fields,
+    pub last: Fields,
+}
+
+pub fn due_after(line: &[u8], start: usize) -> Due {
+    let first = read(line, none(start), 6, I64);
+    let last = read(line, none(first.next), 3, I64);
+    Due { first, last }
 }
 
 // Where the refusal is 0 the report is due, and a residue for each pair, and otherwise that very refusal, zeros and no residue.
-pub fn is_due(given: rows::Scored, pairs: u64, due: Fields) -> bool {
+pub fn is_due(given: rows::Scored, pairs: u64, due: Due) -> bool {
     match given {
-        rows::Scored::Report(report) => (due.a == 0) & is_report(report, pairs, due),
-        rows::Scored::Refused(number) => is_refusal(number, due.a) & is_report(nothing(), 0, due),
+        rows::Scored::Report(report) => (due.first.b == 0) & is_report(report, pairs, due),
+        rows::Scored::Refused(number) => {
+            is_refusal(number, due.first.b) & is_report(RowReport::empty(), 0, due)
+        }
     }
 }
 
-fn nothing() -> RowReport {
-    RowReport {
-        score: 0,
-        true_sum: 0,
-        error: 0,
-        magnitude_sum: 0,
-        nonzero_pairs: 0,
-    }
-}
-
-fn is_report(report: RowReport, residues: u64, due: Fields) -> bool {
-    (report.score == i64_of(due.b))
-        & (report.true_sum == i64_of(due.c))
-        & (report.error == i64_of(due.d))
-        & (report.magnitude_sum == due.e)
-        & (report.nonzero_pairs == due.f)
-        & (residues == due.g)
+fn is_report(report: RowReport, residues: u64, due: Due) -> bool {
+    (report.score == i64_of(due.first.c))
+        & (report.true_sum == i64_of(due.first.d))
+        & (report.error == i64_of(due.first.e))
+        & (report.magnitude_sum == due.first.f)
+        & (report.nonzero_pairs == due.first.g)
+        & (report.largest_residue == due.last.e)
+        & (report.largest_place == due.last.f)
+        & (residues == due.last.g)
 }
 
 // The line ends with so many residues, which the first places hold. The later ones hold their mark.

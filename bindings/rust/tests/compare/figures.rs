@@ -123,6 +123,18 @@ fn judged(signed: bool, numbers: (u32, u32, u32), (a, b): (i128, i128), figure: 
     tally.same(products::outcome(signed, numbers, (a, b)), figure, || input() + ", by the meaning");
 }
 
+/// The largest residue and its place, and the residues, of a row by design 1.
+fn worst((weights, frame): (&[i16], &[i16]), (largest, place): (u64, u64), figure: &[i64], tally: &mut Tally) {
+    let mut residues = vec![0; weights.len()];
+    let given = score_row(Design::Mitchell, weights, frame, &mut residues);
+    let given = given.map(|report| (report.largest_residue, report.largest_place));
+    tally.outcome(given, Ok((largest, place)), || format!("figure, largest residue of {weights:?} and {frame:?}"));
+    tally.same(&residues[..], figure, || format!("figure, residues of {weights:?} and {frame:?}"));
+    let meant =
+        rows::outcome((1, 0), weights, frame, weights.len()).map(|(report, _)| (report.largest_residue, report.largest_place));
+    tally.same(meant, Ok((largest.into(), place.into())), || format!("figure, largest residue of {weights:?}, by the meaning"));
+}
+
 /// The row of the figures, its score handed out, the limit of a row, and the empty store.
 fn row(tally: &mut Tally) {
     let (weights, frame) = ([3, -5, 0], [3, 6, 7]);
@@ -133,6 +145,9 @@ fn row(tally: &mut Tally) {
     tally.same(residues, [1, -2, 0], || "figure, residues of the row".into());
     let meant = rows::outcome((1, 0), &weights, &frame, 3).map(|(report, written)| (report.score, written));
     tally.same(meant, Ok((-20, vec![1, -2, 0])), || "figure, row by the meaning".into());
+    worst((&weights, &frame), (2, 1), &[1, -2, 0], tally);
+    worst((&[3, -5, 5, 3], &[3, 6, 6, 3]), (2, 1), &[1, -2, 2, 1], tally);
+    worst((&[0, 1], &[7, 4]), (0, 0), &[0, 0], tally);
 
     let score = scale(-20, 39, 3).map(|scaled| scaled.score);
     tally.outcome(score, Ok(-2.5), || "figure, score -20 with shift 3".into());

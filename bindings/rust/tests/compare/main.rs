@@ -28,7 +28,7 @@ use tally::Tally;
 /// What a part compares, how often it is run, each time with another seed, and the part itself.
 type Part = (&'static str, usize, fn(&mut Random, &mut Tally));
 
-const PARTS: [Part; 25] = [
+const PARTS: [Part; 26] = [
     ("figures of docs/SCOPE.md", 1, figures::all),
     ("products: all byte pairs, every design and setting, every width", 1, products::byte_pairs),
     ("products: all pairs at width 12, design 1", 1, products::twelve_bit_pairs::<1>),
@@ -41,6 +41,7 @@ const PARTS: [Part; 25] = [
     ("byte table: all pairs", 1, products::byte_table),
     ("rows: 0 to 40 pairs, every design and setting", 12, rows::short),
     ("rows: at the bound and beside it", 2, rows::at_the_bound),
+    ("rows: equal residues, every design and setting", 2, rows::with_equal_residues),
     ("rows: 4,095 to 4,098 pairs, every design and setting", 2, rows::long),
     ("rows: damaged", 4, rows::damaged),
     ("stores: all small ones", 1, stores::small),

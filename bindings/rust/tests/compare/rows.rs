@@ -1,4 +1,4 @@
-//! Rows of weights: the report, every place of the residue slice, and the third demand.
+//! Rows of weights: the report, every place of the residue slice, the third demand, and the error beside the largest residue.
 
 use highvane::{
     Design, Refusal, score_row, score_row_mitchell, score_row_nearest, score_row_staged, score_row_truncated,
@@ -17,6 +17,8 @@ fn widened(report: highvane::Report) -> Report {
         error: report.error.into(),
         magnitude_sum: report.magnitude_sum.into(),
         nonzero_pairs: report.nonzero_pairs.into(),
+        largest_residue: report.largest_residue.into(),
+        largest_place: report.largest_place.into(),
     }
 }
 
@@ -67,6 +69,8 @@ impl Row<'_> {
         if let Ok(report) = given {
             let holds = demand::holds(numbers, weights, frame, &report);
             tally.same(holds, true, || format!("{}, third demand of {report:?}", input()));
+            let within = report.error.abs() <= report.nonzero_pairs * report.largest_residue;
+            tally.same(within, true, || format!("{}, error and largest residue of {report:?}", input()));
         }
     }
 }
@@ -130,6 +134,24 @@ pub fn at_the_bound(random: &mut Random, tally: &mut Tally) {
             }
         }
         compare(numbers, &weights, &frame, length, random, tally);
+    }
+}
+
+/// Rows of up to three times 64 pairs of few numbers, so that many residues have the same size; at times one of another size stands among
+/// them. By every design and setting.
+pub fn with_equal_residues(random: &mut Random, tally: &mut Tally) {
+    for numbers in all_numbers() {
+        for _ in 0..400 {
+            let length = random.size(193);
+            let sizes = [random.sample(), random.sample()];
+            let mut signed = || random.pick(&sizes).saturating_mul(random.pick(&[-1, 1]));
+            let mut weights: Vec<i16> = (0..length).map(|_| signed()).collect();
+            let frame: Vec<i16> = (0..length).map(|_| signed()).collect();
+            if length > 0 && random.once_in(2) {
+                weights[random.size(length)] = random.sample();
+            }
+            compare(numbers, &weights, &frame, length + random.size(3), random, tally);
+        }
     }
 }
 

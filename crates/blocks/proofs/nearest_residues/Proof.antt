@@ -1,17 +1,14 @@
 -- The loop's invariant: the first j places hold the residues of as many pairs. Assumes nothing.
 use borrow.Author.Needs.{needs}
-use mathlib.Core.Path.{sym}
-use Prim.Native.Nat.{_≤_, _-_}
+use Prim.Native.Nat.{_-_}
 use native.Mathlib.Omega.{arith}
 use Rattle.designs.specs.Designs.{nearest}
-use Rattle.patterns.proofs.Blocks.{all-done, none-done}
-use Rattle.blocks.specs.Residues.{Residues}
-use Rattle.blocks.proofs.Filling.{next}
+use Rattle.blocks.proofs.Taking.{all-filled, Filled-so-far, next-filled, none-filled}
 use Rattle.blocks.proofs.nearest_residues.Statement.{statement}
 use Rattle.blocks.proofs.nearest_residues.Tie as tie
 
 abbrev Inv-loop : tie.InvT-loop
-Inv-loop weights frame block₀ n j₀ block j = (j ≤ n) × Residues nearest weights frame j block₀ block
+Inv-loop weights frame block₀ n j₀ block j = Filled-so-far nearest weights frame block₀ block n j
 
 abbrev μ-loop : tie.MeasureT-loop
 μ-loop weights frame block₀ n j₀ block j = n - j
@@ -19,15 +16,13 @@ abbrev μ-loop : tie.MeasureT-loop
 loop-again : tie.Need-loop-again Inv-loop μ-loop
 loop-again c =
     let pair = c .before in
-    let at = pair .before .before .before in
-    let args = at .before .before .args in (
-      omega arith,
-      next _ (args .weights .now) (args .frame .now) (at .loop .j) (at .loop .inv .1) (omega arith) (pair .before .w .given) (pair .x .given)
-          (c .nearest-residue .ok) (c .nearest-residue .ensures),
-    )
+    let test = pair .before .before in
+    next-filled (test .before .loop .inv) tt
+    (record { weight = pair .before .w .given; number = pair .x .given; ok = c .nearest-residue .ok; is = c .nearest-residue .ensures })
+    (test .loop-test .taken) (omega (arith, test .before .before .taken .ensures, test .before .before .before .pre))
 
 returns : tie.Need-returns Inv-loop μ-loop
-returns c = rw (sym (c .before .before .taken .ensures)) (all-done (c .before .loop .inv .1) (c .before .loop .inv .0) (c .loop-test .left))
+returns c = all-filled (c .before .loop .inv) (c .loop-test .left) (c .before .before .taken .ensures) (c .before .before .before .pre)
 
 pub nearest-residues-spec : {M : Type 1} → statement M
 nearest-residues-spec =
@@ -36,7 +31,7 @@ nearest-residues-spec =
     Inv-loop
     μ-loop
     (λ c κs. search needs)
-    (λ c. (omega arith, none-done _ _))
+    (λ c. none-filled)
     (λ c. search needs)
     (λ c. search needs)
     (λ c. search needs)
@@ -47,5 +42,5 @@ nearest-residues-spec =
     (λ c. search needs)
     (λ c. search needs)
     loop-again
-    (λ c. search needs)
+    (λ c. c .before .loop .inv .residues .size)
     returns)

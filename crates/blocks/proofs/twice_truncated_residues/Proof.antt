@@ -1,18 +1,15 @@
 -- The loop's invariant: the first j places hold the residues of as many pairs. Assumes nothing.
 use borrow.Author.Needs.{needs}
-use mathlib.Core.Path.{sym}
-use Prim.Native.Nat.{_≤_, _-_}
+use Prim.Native.Nat.{_-_}
 use native.Mathlib.Omega.{arith}
 use Rattle.designs.specs.Designs.{twiceTruncated}
 use Rattle.patterns.specs.Patterns.{clamped}
-use Rattle.patterns.proofs.Blocks.{all-done, none-done}
-use Rattle.blocks.specs.Residues.{Residues}
-use Rattle.blocks.proofs.Filling.{next}
+use Rattle.blocks.proofs.Taking.{all-filled, Filled-so-far, next-filled, none-filled}
 use Rattle.blocks.proofs.twice_truncated_residues.Statement.{statement}
 use Rattle.blocks.proofs.twice_truncated_residues.Tie as tie
 
 abbrev Inv-loop : tie.InvT-loop
-Inv-loop kept weights frame block₀ n j₀ block j = (j ≤ n) × Residues (twiceTruncated (clamped kept)) weights frame j block₀ block
+Inv-loop kept weights frame block₀ n j₀ block j = Filled-so-far (twiceTruncated (clamped kept)) weights frame block₀ block n j
 
 abbrev μ-loop : tie.MeasureT-loop
 μ-loop kept weights frame block₀ n j₀ block j = n - j
@@ -20,15 +17,13 @@ abbrev μ-loop : tie.MeasureT-loop
 loop-again : tie.Need-loop-again Inv-loop μ-loop
 loop-again c =
     let pair = c .before in
-    let at = pair .before .before .before in
-    let args = at .before .before .args in (
-      omega arith,
-      next _ (args .weights .now) (args .frame .now) (at .loop .j) (at .loop .inv .1) (omega arith) (pair .before .w .given) (pair .x .given)
-          (c .twice-truncated-residue .ok) (c .twice-truncated-residue .ensures),
-    )
+    let test = pair .before .before in
+    next-filled (test .before .loop .inv) (omega arith)
+    (record { weight = pair .before .w .given; number = pair .x .given; ok = c .twice-truncated-residue .ok; is = c .twice-truncated-residue .ensures })
+    (test .loop-test .taken) (omega (arith, test .before .before .taken .ensures, test .before .before .before .pre))
 
 returns : tie.Need-returns Inv-loop μ-loop
-returns c = rw (sym (c .before .before .taken .ensures)) (all-done (c .before .loop .inv .1) (c .before .loop .inv .0) (c .loop-test .left))
+returns c = all-filled (c .before .loop .inv) (c .loop-test .left) (c .before .before .taken .ensures) (c .before .before .before .pre)
 
 pub twice-truncated-residues-spec : {M : Type 1} → statement M
 twice-truncated-residues-spec =
@@ -37,7 +32,7 @@ twice-truncated-residues-spec =
     Inv-loop
     μ-loop
     (λ c κs. search needs)
-    (λ c. (omega arith, none-done _ _))
+    (λ c. none-filled)
     (λ c. search needs)
     (λ c. search needs)
     (λ c. search needs)
@@ -48,5 +43,5 @@ twice-truncated-residues-spec =
     (λ c. search needs)
     (λ c. search needs)
     loop-again
-    (λ c. search needs)
+    (λ c. c .before .loop .inv .residues .size)
     returns)

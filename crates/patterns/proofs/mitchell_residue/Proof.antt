@@ -8,8 +8,9 @@ use mir.Val.{toZ, ofZ}
 use mir.Facts.{toZ-ofZ}
 use Rattle.designs.specs.Designs.{mitchell}
 use Rattle.designs.specs.Signs.{signedProduct}
-use Rattle.patterns.specs.Patterns.{Less, patternOf}
+use Rattle.patterns.specs.Patterns.{Less}
 use Rattle.pairs.proofs.Integers.{read-true, size16}
+use Rattle.patterns.proofs.Moved.{read-pattern}
 use Rattle.patterns.proofs.Pair.{residue-is}
 use Rattle.patterns.proofs.Mitchell.{mitchell-less}
 use Rattle.patterns.proofs.mitchell_residue.Statement.{statement}
@@ -29,9 +30,8 @@ module _ (c : tie.After-log-sum) where
   less =
       rw truth
       (mitchell-less (start .args .w) (start .args .x) (c .log-sum .result) (size16 (start .fits .w)) (size16 (start .fits .x)) (search needs)
-      (c .log-sum .ensures
-      ∙ ap₂ (λ (p q : ℕ). (p + q) % 2 ^ 32) (c .before .before .pattern .ensures ∙ ap patternOf (toZ-ofZ (start .fits .w)))
-      (c .before .pattern2 .ensures ∙ ap patternOf (toZ-ofZ (start .fits .x)))))
+      (λ pw px. c .log-sum .ensures
+      ∙ ap₂ (λ (p q : ℕ). (p + q) % 2 ^ 32) (read-pattern (start .fits .w) (c .before .before .pattern .ensures) pw) (read-pattern (start .fits .x) (c .before .pattern2 .ensures) px)))
 
 residue-by-requires : tie.Need-residue-by-requires
 residue-by-requires c κs = (_, less c)

@@ -10,8 +10,9 @@ use mir.Val.{toZ, ofZ}
 use mir.Facts.{toZ-ofZ}
 use Rattle.designs.specs.Designs.{truncated}
 use Rattle.designs.specs.Signs.{residue, signedProduct}
-use Rattle.patterns.specs.Patterns.{Less, patternOf}
+use Rattle.patterns.specs.Patterns.{Less}
 use Rattle.pairs.proofs.Integers.{read-true, size16}
+use Rattle.patterns.proofs.Moved.{read-pattern}
 use Rattle.patterns.proofs.Pair.{residue-is}
 use Rattle.patterns.proofs.KeptPatterns.{truncated-less}
 use Rattle.patterns.proofs.truncated_residue.Statement.{statement}
@@ -34,10 +35,10 @@ module _ (c : tie.After-with-carry) where
   less =
       rw truth
       (truncated-less t (omega arith) (start .args .w) (start .args .x) (size16 (start .fits .w)) (size16 (start .fits .x)) (omega arith) (c .before .log-sum .result) (c .with-carry .result) (search needs)
-      (c .before .log-sum .ensures
+      (λ pw px. c .before .log-sum .ensures
       ∙ ap₂ (λ (p q : ℕ). (p + q) % 2 ^ 32)
-      (c .before .before .before .before .cut .ensures ∙ ap mask (c .before .before .before .before .before .pattern .ensures ∙ ap patternOf (toZ-ofZ (start .fits .w))))
-      (c .before .before .cut2 .ensures ∙ ap mask (c .before .before .before .pattern2 .ensures ∙ ap patternOf (toZ-ofZ (start .fits .x)))))
+      (c .before .before .before .before .cut .ensures ∙ ap mask (read-pattern (start .fits .w) (c .before .before .before .before .before .pattern .ensures) pw))
+      (c .before .before .cut2 .ensures ∙ ap mask (read-pattern (start .fits .x) (c .before .before .before .pattern2 .ensures) px)))
       (c .with-carry .ensures))
     where
       mask : ℕ → ℕ

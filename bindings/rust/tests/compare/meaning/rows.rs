@@ -10,6 +10,8 @@ pub struct Report {
     pub error: i128,
     pub magnitude_sum: i128,
     pub nonzero_pairs: i128,
+    pub largest_residue: i128,
+    pub largest_place: i128,
 }
 
 /// The report, and the residue of each pair.
@@ -53,5 +55,10 @@ pub fn by_itself(
         residues.push(weight * number - product);
     }
     report.error = report.true_sum - report.score;
+    for (place, residue) in (0..).zip(&residues) {
+        if residue.abs() > report.largest_residue {
+            (report.largest_residue, report.largest_place) = (residue.abs(), place);
+        }
+    }
     Ok((report, residues))
 }

@@ -1,19 +1,57 @@
--- A 16-bit number, widened, has a size of at most 2^15. Assumes nothing.
-use mathlib.Core.Path.{ap, _∙_}
-use mir.Syntax.{w32}
-use Rattle.patterns.specs.Patterns.{patternOf}
+-- The number is moved up by 2^16, which an i32 holds and a binary64 too; its bits as a binary32 are those of the pattern with 16 more in the
+-- exponent field. Assumes nothing.
+use borrow.Author.Needs.{needs}
+use mathlib.Core.Path.{_≡_, ap, _∙_}
+use native.Mathlib.Omega.{arith}
+use mathlib.Core.Bool.{not}
+use lib.Dec.{T}
+use lib.Ieee.{binary32, binary64, fits, isNan, ofInt, toBits}
+use lib.Ieee.Fits.{and-i}
+use lib.IntN.{ℤ, pos, _*ℤ_}
+use lib.Signed.{natAbs-le}
+use mir.Syntax.{w16, w32}
+use mir.Val.{SFits, toZ, ofZ}
+use Rattle.signs.proofs.Integers.{fits-as, read-as}
 use Rattle.pairs.proofs.Integers.{size16, widened, widens}
+use Rattle.patterns.proofs.Moved.{moved, moved-down, moved-fits, moved-mag}
+use Rattle.patterns.proofs.Values.{int-no-nan}
 use Rattle.patterns.proofs.logs.pattern.Statement.{statement}
 use Rattle.patterns.proofs.logs.pattern.Tie as tie
 
-cast-pattern-of : tie.Need-cast-pattern-of
-cast-pattern-of c = widens tt (c .fits .x)
+module _ (c : tie.Start) where
+  abbrev x : ℤ
+  x = c .args .x
 
-pattern-of-requires : tie.Need-pattern-of-requires
-pattern-of-requires c κs = rw (widened w32 tt (c .fits .x)) (size16 (c .fits .x))
+  wide : moved (toZ w32 (ofZ w32 (toZ w16 (ofZ w16 x)))) ≡ moved x
+  wide = ap moved (widened w32 tt (c .fits .x))
+
+  in-i32 : SFits w32 (moved x)
+  in-i32 = record { sfits = moved-mag x (c .fits .x .sfits) }
+
+  read : toZ w32 (ofZ w32 (moved (toZ w32 (ofZ w32 (toZ w16 (ofZ w16 x)))))) ≡ moved x
+  read = read-as wide in-i32
+
+  no-nan : T (not (isNan (ofInt binary64 (moved x))))
+  no-nan = int-no-nan binary64 (moved x) (omega (arith, natAbs-le (moved x) (in-i32 .sfits)))
+
+float-to-float : tie.Need-float-to-float-wrapping-sub-u32
+float-to-float c =
+    let s = c .before .before in
+    rw (read s) (and-i (fits binary32 (ofInt binary64 (moved (x s)))) (not (isNan (ofInt binary64 (moved (x s))))) (moved-fits (x s) (size16 (s .fits .x))) (no-nan s))
 
 returns : tie.Need-returns
-returns c = c .pattern-of .ensures ∙ ap patternOf (widened w32 tt (c .before .fits .x))
+returns c h =
+    let s = c .before .before .before in
+    moved-down (x s) _ h (size16 (s .fits .x)) (search needs) (c .wrapping-sub-u32 .ensures ∙ ap (λ (z : ℤ). toBits binary32 (ofInt binary64 z)) (read s))
 
 pub pattern-spec : {M : Type 1} → statement M
-pattern-spec = tie.close (tie.spec cast-pattern-of pattern-of-requires returns)
+pattern-spec =
+    tie.close
+    (tie.spec
+    (λ c. widens tt (c .fits .x))
+    (λ c. fits-as (wide c) (in-i32 c))
+    (λ c. search needs)
+    float-to-float
+    (λ c. let s = c .before .before in rw (read s) (no-nan s))
+    (λ c κs. search needs)
+    returns)

@@ -34,7 +34,7 @@ module _ (c : tie.After-unless-zero) where
       subst (λ (p : ℕ). Stands p (pos (product (truncated (start .args .t)) A B)))
       (sym (c .unless-zero .ensures ∙ ap (λ (n : ℕ). unlessZero n 1 (c .before .with-carry .result)) same))
       (truncated-less (start .args .t) (start .pre .few) (pos A) (pos B) (start .pre .first) (start .pre .second) (start .pre .some) (sum .log-sum .result) (c .before .with-carry .result) (search needs)
-      (sum .log-sum .ensures
+      (λ _ _. sum .log-sum .ensures
       ∙ ap₂ (λ (p q : ℕ). (p + q) % 2 ^ 32)
       (sum .before .before .before .cut .ensures ∙ ap mask (sum .before .before .before .before .size-pattern .ensures))
       (sum .before .cut2 .ensures ∙ ap mask (sum .before .before .size-pattern2 .ensures)))

@@ -10,6 +10,7 @@ use mir.Facts.{toZ-ofZ}
 use Rattle.designs.specs.Rows.{Report}
 use Rattle.designs.proofs.Sizes.{size-add, size-neg}
 use Rattle.signs.proofs.Integers.{fits-as, read-as, sized}
+use Rattle.rows.specs.declared.worst.Worst.{Worst}
 use Rattle.rows.proofs.sums.report_of.Statement.{statement}
 use Rattle.rows.proofs.sums.report_of.Tie as tie
 
@@ -32,8 +33,11 @@ module _ (c : tie.Start) where
   score-fits : SFits w64 (t -ℤ e)
   score-fits = sized (t -ℤ e) (omega (arith, size-add t (negℤ e), size-neg e, c .pre .0 .true-sum, c .pre .0 .error))
 
-equal : {a a' t t' e e' : ℤ} {m n : ℕ} → a ≡ a' → t ≡ t' → e ≡ e'
-    → _≡_ {A = Report} (record { score = a; trueSum = t; error = e; magnitudeSum = m; nonzeroPairs = n }) (record { score = a'; trueSum = t'; error = e'; magnitudeSum = m; nonzeroPairs = n })
+-- reports with the same sums
+abbrev made : ℤ → ℤ → ℤ → ℕ → ℕ → Worst → Report
+made a t e m n w = record { score = a; trueSum = t; error = e; magnitudeSum = m; nonzeroPairs = n; largestResidue = w .size; largestPlace = w .place }
+
+equal : {a a' t t' e e' : ℤ} {m n : ℕ} {w : Worst} → a ≡ a' → t ≡ t' → e ≡ e' → made a t e m n w ≡ made a' t' e' m n w
 equal ea et ee = rw (ea, et, ee) refl
 
 returns : tie.Need-returns

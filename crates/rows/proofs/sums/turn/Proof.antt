@@ -15,7 +15,7 @@ wide : (c : tie.Start) → toZ w64 (ofZ w64 (toZ w32 (ofZ w32 (c .args .residue)
 wide c = widened w64 tt (c .fits .residue)
 
 slice-set-from-wide : tie.Need-slice-set-from-wide
-slice-set-from-wide c = let ok = c .pre .1 .1 .1 .1 in omega (arith, ok .reached .places .size, ok .room)
+slice-set-from-wide c = let ok = c .pre .1 .1 .1 .1 in omega (arith, ok .reached .written .places .size, ok .room)
 
 with-pair-requires : tie.Need-with-pair-requires
 with-pair-requires c κs =

@@ -12,7 +12,9 @@ use Rattle.designs.specs.Rows.{nonzero}
 use Rattle.designs.proofs.Sizes.{size-add}
 use Rattle.pairs.proofs.Integers.{true-size, widened, widens}
 use Rattle.signs.proofs.Integers.{fits-as, read-as, sized}
+use Rattle.rows.specs.Worst.{withResidue}
 use Rattle.rows.specs.declared.sums.Sums.{Sums}
+use Rattle.rows.specs.declared.worst.Worst.{Worst}
 use Rattle.rows.proofs.sums.with_pair.Statement.{statement}
 use Rattle.rows.proofs.sums.with_pair.Tie as tie
 
@@ -23,9 +25,9 @@ read a h = toZ-ofZ (sized a (omega arith))
 plus : (a b : ℤ) → natAbs a < 2 ^ 62 → natAbs b < 2 ^ 62 → SFits w64 (a +ℤ b)
 plus a b h g = sized _ (omega (arith, size-add a b))
 
-equal : {t t' e e' : ℤ} {m m' n n' : ℕ} → t ≡ t' → e ≡ e' → m ≡ m' → n ≡ n'
-    → _≡_ {A = Sums} (record { «true_sum» = t; error = e; «magnitude_sum» = m; «zero_pairs» = n }) (record { «true_sum» = t'; error = e'; «magnitude_sum» = m'; «zero_pairs» = n' })
-equal et ee em en = rw (et, ee, em, en) refl
+equal : {t t' e e' : ℤ} {m m' n n' : ℕ} {v v' : Worst} → t ≡ t' → e ≡ e' → m ≡ m' → n ≡ n' → v ≡ v'
+    → _≡_ {A = Sums} (record { «true_sum» = t; error = e; «magnitude_sum» = m; «zero_pairs» = n; worst = v }) (record { «true_sum» = t'; error = e'; «magnitude_sum» = m'; «zero_pairs» = n'; worst = v' })
+equal et ee em en ev = rw (et, ee, em, en, ev) refl
 
 -- what the callees give, of the numbers themselves
 module _ (c : tie.After-true-product) where
@@ -65,17 +67,13 @@ first c = c .before .before .before .before .before .before .before
 counted : (c : tie.After-holds-zero) → c .holds-zero .result ≡ 1 - nonzero (start (first c) .args .w) (start (first c) .args .x)
 counted c = c .holds-zero .ensures ∙ ap₂ (λ (w x : ℤ). 1 - nonzero w x) (toZ-ofZ (start (first c) .fits .w)) (toZ-ofZ (start (first c) .fits .x))
 
-add-t13 : tie.Need-add-t13
-add-t13 c =
-    let s = start (first (c .before)) in
-    record { fits = omega (arith, counted (c .before), s .pre .0 .pairs) }
-
 returns : tie.Need-returns
 returns c =
-    let last = c .before in
+    let last = c .before .before in
     let b = first last in
     let size = last .before .before .true-size .ensures ∙ ap₂ (λ (w x : ℤ). natAbs (w *ℤ x)) (toZ-ofZ (start b .fits .w)) (toZ-ofZ (start b .fits .x)) in
     equal (read-as (true-is b) (true-fits b)) (read-as (error-is b) (error-fits b)) (ap (λ (k : ℕ). sums b .«magnitude_sum» + k) size) (ap (λ (k : ℕ). sums b .«zero_pairs» + k) (counted last))
+    (c .with-residue .ensures ∙ ap (λ (r : ℤ). withResidue (sums b .worst) r (start b .args .at)) (read (start b .args .residue) (start b .pre .1)))
 
 pub with-pair-spec : {M : Type 1} → statement M
 with-pair-spec =
@@ -89,5 +87,6 @@ with-pair-spec =
     (λ c. search needs)
     (λ c. search needs)
     (λ c κs. search needs)
-    add-t13
+    (λ c. let s = start (first (c .before)) in record { fits = omega (arith, counted (c .before), s .pre .0 .pairs) })
+    (λ c κs. search needs)
     returns)

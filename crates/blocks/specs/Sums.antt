@@ -1,0 +1,73 @@
+-- What the pairs of a block add up to. Definitions only.
+use mathlib.Core.Path.{_≡_}
+use mathlib.Core.List.{List}
+use Prim.Native.Nat.{ℕ, max, _+_, _-_, _*_, _/_, _%_, _^_, _≤_, _<_}
+use lib.IntN.{ℤ, pos, natAbs, _*ℤ_}
+use lib.ListN.{length}
+use mir.Syntax.{w16}
+use mir.Val.{SFits}
+use Rattle.designs.specs.Designs.{Design, staged}
+use Rattle.designs.specs.Rows.{nonzero}
+use Rattle.designs.specs.Signs.{residue}
+use Rattle.pairs.specs.Lengths.{pairsOf}
+use Rattle.pairs.specs.Sizes.{minusSize}
+use Rattle.patterns.specs.Blocks.{place}
+use Rattle.blocks.specs.Counts.{count, greatest}
+use Rattle.blocks.specs.Residues.{ofPair, Residues, ResiduesByStages}
+use Rattle.blocks.specs.declared.sums.BlockSums.{BlockSums}
+
+-- the sums of no pairs
+abbrev pub noSums : BlockSums
+noSums = record { «sizes_high» = 0; «sizes_low» = 0; «minus_high» = 0; «minus_low» = 0; «zero_pairs» = 0; largest = pos 0 }
+
+-- the sums with the pair w, x, whose residue is r
+abbrev pub withPair : BlockSums → ℤ → ℤ → ℤ → BlockSums
+withPair s w x r =
+    record {
+      «sizes_high» = s .«sizes_high» + natAbs (w *ℤ x) / 65536;
+      «sizes_low» = s .«sizes_low» + natAbs (w *ℤ x) % 65536;
+      «minus_high» = s .«minus_high» + minusSize (w *ℤ x) / 65536;
+      «minus_low» = s .«minus_low» + minusSize (w *ℤ x) % 65536;
+      «zero_pairs» = s .«zero_pairs» + (1 - nonzero w x);
+      largest = pos (max (natAbs (s .largest)) (natAbs r));
+    }
+
+-- sums that have room for a pair more
+pub record Roomy (s : BlockSums) : Type 0 where
+  pub sizes-high : s .«sizes_high» < 2 ^ 31
+  pub sizes-low : s .«sizes_low» < 2 ^ 31
+  pub minus-high : s .«minus_high» < 2 ^ 31
+  pub minus-low : s .«minus_low» < 2 ^ 31
+  pub pairs : s .«zero_pairs» < 2 ^ 31
+  pub largest : s .largest ≡ pos (natAbs (s .largest))
+
+-- The sums of n pairs: pair k has the numbers w k and x k, which are 16-bit numbers, and leaves z k. Each half has a bound that n gives it.
+pub record Adds (z w x : ℕ → ℤ) (n : ℕ) (s : BlockSums) : Type 0 where
+  pub sizes : s .«sizes_high» * 65536 + s .«sizes_low» ≡ count (λ k. natAbs (w k *ℤ x k)) n
+  pub minus : s .«minus_high» * 65536 + s .«minus_low» ≡ count (λ k. minusSize (w k *ℤ x k)) n
+  pub zeros : s .«zero_pairs» + count (λ k. nonzero (w k) (x k)) n ≡ n
+  pub largest : s .largest ≡ pos (greatest (λ k. natAbs (z k)) n)
+  pub fits : (k : ℕ) → k < n → SFits w16 (w k) × SFits w16 (x k)
+  pub sizes-high : s .«sizes_high» ≤ n * 65535
+  pub sizes-low : s .«sizes_low» ≤ n * 65535
+  pub minus-high : s .«minus_high» ≤ n * 65535
+  pub minus-low : s .«minus_low» ≤ n * 65535
+
+-- how many pairs a block takes of two slices
+abbrev pub taken : List ℤ → List ℤ → ℕ
+taken ws fs = pairsOf (length ws) (length fs) 64
+
+-- a block that holds the residues of these pairs, none of them of size 2^31
+pub record Held (ws fs block : List ℤ) : Type 0 where
+  pub places : 64 ≤ length block
+  pub small : (k : ℕ) → k < taken ws fs → natAbs (place block k) < 2 ^ 31
+
+-- The promise of a block by a design: it is filled, and its pairs add up to s.
+pub record Taken (D : Design) (ws fs before after : List ℤ) (s : BlockSums) : Type 0 where
+  pub filled : Residues D ws fs (taken ws fs) before after
+  pub adds : Adds (ofPair (residue D) ws fs) (place ws) (place fs) (taken ws fs) s
+
+-- by stages
+pub record TakenByStages (t : ℕ) (ws fs before after : List ℤ) (s : BlockSums) : Type 0 where
+  pub filled : ResiduesByStages t ws fs (taken ws fs) before after
+  pub adds : Adds (ofPair (residue (staged t)) ws fs) (place ws) (place fs) (taken ws fs) s
