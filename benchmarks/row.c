@@ -17,11 +17,11 @@
  * and up again (7 to 8); the twice truncated one so scaled (14 to 15), with what is left by a mask that is shifted down (4) or by
  * differences under masks (10 to 11), with the carry into the exponent by a condition (1 to 2), and with parts that are 0 by
  * masks (6 to 12); counting the pairs without a 0 and not those with one (1 to 2); summing the error and the true products below
- * 0, as the library does, and not the score and the sizes (1 with a branch on signs; with masks from 1 less to 1 more). The
- * largest residue and its place by a loop of their own took up to 1.11 times the time. A branch
+ * 0, as the library does, and not the score and the sizes (1 with a branch on signs; with masks from 1 less to 1 more). A branch
  * on the carry of the fractions gave 1 less, or up to 2 in design 5, and at every other pair one more branch that is predicted
  * wrongly, so that design 5 took 1.4 to 1.5 times the time; so it did with what is left by a condition, of which gcc makes a
- * branch. None of the other forms of design 5 was faster, and none took above 1.11 times the time.
+ * branch. None of the other forms of design 5 was faster, and none took above 1.11 times the time. The largest residue and its
+ * place by a loop of their own took 1.04 to 1.15 times the time of rows of 4,096 pairs.
  */
 #include <stdlib.h>
 #include <string.h>

@@ -65,7 +65,8 @@ def check_worked_row():
             for head, given in (('true product', alone.true_sum), ('by design 1', alone.score), ('residue', alone.error)):
                 expect(place, head, row[head], given)
     whole = row_report(MITCHELL, 0, pairs)
-    fields = {'score': whole.score, 'true sum': whole.true_sum, 'error': whole.error, 'T': whole.t, 'n': whole.n}
+    fields = {'score': whole.score, 'true sum': whole.true_sum, 'error': whole.error, 'T': whole.t, 'n': whole.n,
+              'largest residue': whole.largest, 'its place': whole.place}
     for place, row in table_rows(README):
         if 'field' in row:
             name = row['field'].strip('*')

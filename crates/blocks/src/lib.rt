@@ -46,7 +46,7 @@ fn mitchell_pairs(weights: &[i16], frame: &[i16], block: &mut [i32]) -> BlockSum
     sums
 }
 
-// By design 2, the nearest power: with the sums in the same loop it would take longer, and so by designs 3 and 5.
+// By design 2, the nearest power: with the sums in the same loop it would take twice as long.
 pub fn nearest(weights: &[i16], frame: &[i16], block: &mut [i32; BLOCK]) -> BlockSums
     ensures { λ r. ⌜ Taken nearest (now (weights .entry)) (now (frame .entry)) (now (block .entry)) (now (block .exit)) r ⌝ }
 {
@@ -133,7 +133,7 @@ fn truncated_pairs(kept_bits: u32, weights: &[i16], frame: &[i16], block: &mut [
     sums
 }
 
-// By design 5, with the kept bits as by design 4.
+// By design 5, with the kept bits as by design 4, and in one loop too.
 pub fn twice_truncated(
     kept_bits: u32,
     weights: &[i16],
@@ -142,20 +142,28 @@ pub fn twice_truncated(
 ) -> BlockSums
     ensures { λ r. ⌜ Taken (twiceTruncated (clamped «kept_bits»)) (now (weights .entry)) (now (frame .entry)) (now (block .entry)) (now (block .exit)) r ⌝ }
 {
-    twice_truncated_residues(kept_bits, weights, frame, &mut block[..]);
-    added(weights, frame, &block[..])
+    twice_truncated_pairs(kept_bits, weights, frame, &mut block[..])
 }
 
-fn twice_truncated_residues(kept_bits: u32, weights: &[i16], frame: &[i16], block: &mut [i32])
+fn twice_truncated_pairs(
+    kept_bits: u32,
+    weights: &[i16],
+    frame: &[i16],
+    block: &mut [i32],
+) -> BlockSums
     requires { ⌜ 64 ≤ length (now block) ⌝ }
-    ensures { λ r. ⌜ Residues (twiceTruncated (clamped «kept_bits»)) (now (weights .entry)) (now (frame .entry)) (taken (now (weights .entry)) (now (frame .entry))) (now (block .entry)) (now (block .exit)) × Held (now (weights .entry)) (now (frame .entry)) (now (block .exit)) ⌝ }
+    ensures { λ r. ⌜ Taken (twiceTruncated (clamped «kept_bits»)) (now (weights .entry)) (now (frame .entry)) (now (block .entry)) (now (block .exit)) r ⌝ }
 {
     let n = pairs::taken(weights.len(), frame.len(), BLOCK);
+    let mut sums = no_sums();
     let mut j = 0;
     while j < n {
         let w = weights[j];
         let x = frame[j];
-        block[j] = patterns::twice_truncated_residue(kept_bits, w, x);
+        let residue = patterns::twice_truncated_residue(kept_bits, w, x);
+        block[j] = residue;
+        sums = with_pair(sums, w, x, residue);
         j += 1;
     }
+    sums
 }
