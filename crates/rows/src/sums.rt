@@ -9,8 +9,7 @@ use crate::RowReport;
 use crate::worst;
 use crate::worst::Worst;
 
-// The sums of some pairs, and the worst of them. Counted are those that hold a zero: where several pairs are taken at a time, adding up a
-// comparison with 0 takes an instruction less than adding up its opposite.
+// The sums of some pairs, and the worst of them. Counted are those that hold a zero, as in a block.
 pub(crate) struct Sums {
     true_sum: i64,
     error: i64,
