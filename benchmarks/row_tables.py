@@ -11,9 +11,9 @@ MASKED, BRANCHING = ['c_each_masked', 'c_one_masked'], ['c_each', 'c_one']
 COLUMNS = {OURS: 'ours', 'c_each_masked': 'each, masked', 'c_each': 'each', 'c_one_masked': 'one, masked', 'c_one': 'one',
            'c_each_small': 'Os each', 'c_one_small': 'Os one', 'rust_each': 'Rust each', 'rust_one_loop': 'Rust one'}
 LENGTHS = [1, 64, PAIRS]
-# What the blocks of a row may take more or fewer by any design, as instructions a pair: a test and a jump in a loop that takes four pairs at
-# a time are half an instruction.
-OF_BLOCK = 0.4
+# What a block may take more or fewer by way of the row by any design, which is compiled apart, as instructions a pair. A test and a jump for
+# every four pairs would be half an instruction.
+OF_BLOCK = 0.1
 
 
 def number(value):

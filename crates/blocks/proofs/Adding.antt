@@ -1,11 +1,11 @@
--- One pair more of a block. A size below 2^32 is its quotient and its rest by 2^16, so both halves of a sum grow by what the pair has; and 64
--- pairs leave room in every number. Assumes nothing.
-use mathlib.Core.Path.{_≡_, refl, sym, ap, ap₂, _∙_, subst}
-use Prim.Native.Nat.{ℕ, zero, suc, max, _+_, _*_, _/_, _%_, _^_, _≤_, _<_}
+-- What the pairs of a block add up to. Each sum grows by what the next pair has, and 64 pairs leave room in all of them; and a number is its
+-- quotient by 2^16 and its rest, so that both halves of a sum make the sum. Assumes nothing.
+use mathlib.Core.Path.{_≡_, refl, ap, ap₂, _∙_, subst}
+use Prim.Native.Nat.{ℕ, zero, suc, _+_, _-_, _*_, _/_, _%_, _^_, _≤_, _<_}
 use native.Mathlib.Nat.{le-antisymm}
 use native.Mathlib.Omega.{arith}
 use mathlib.Core.Bool.{Bool, true, false, cond}
-use lib.IntN.{ℤ, pos, natAbs, _+ℤ_, _*ℤ_}
+use lib.IntN.{ℤ, pos, natAbs, _*ℤ_}
 use lib.Signed.{mag}
 use mir.Syntax.{w16}
 use mir.Val.{SFits, toZ, ofZ}
@@ -17,9 +17,9 @@ use Rattle.designs.proofs.Cases.{either-lt}
 use Rattle.pairs.specs.Sizes.{minusSize}
 use Rattle.pairs.proofs.Integers.{true-size}
 use Rattle.blocks.specs.Counts.{count, greatest}
-use Rattle.blocks.specs.Sums.{Adds, noSums, Roomy, withPair}
+use Rattle.blocks.specs.Sums.{Adds, noSums, Roomy, sumsOf, withPair}
 use Rattle.blocks.specs.declared.sums.BlockSums.{BlockSums}
-use Rattle.blocks.proofs.Counts.{count-as, count-next, greatest-as, greatest-next}
+use Rattle.blocks.proofs.Counts.{count-as, count-next, count-size, greatest-as, greatest-next}
 
 pub counts-once : (w x : ℤ) → nonzero w x ≤ 1
 counts-once w x = once (natAbs w) (natAbs x)
@@ -29,77 +29,105 @@ counts-once w x = once (natAbs w) (natAbs x)
     once (suc A) zero = omega arith
     once (suc A) (suc B) = omega arith
 
-pub minus-le : (z : ℤ) → minusSize z ≤ natAbs z
+minus-le : (z : ℤ) → minusSize z ≤ natAbs z
 minus-le z = go (negative z)
   where
     go : (s : Bool) → cond s (natAbs z) 0 ≤ natAbs z
     go true = omega arith
     go false = omega arith
 
-pub none-added : (z w x : ℕ → ℤ) → Adds z w x 0 noSums
-unfolding count greatest
-none-added z w x =
-    record {
-      sizes = refl;
-      minus = refl;
-      zeros = refl;
-      largest = refl;
-      fits = λ k h. absurd (omega arith);
-      sizes-high = omega arith;
-      sizes-low = omega arith;
-      minus-high = omega arith;
-      minus-low = omega arith;
-    }
+-- the two halves of a sum
+halves : (f : ℕ → ℕ) (n : ℕ) → count (λ k. f k / 65536) n * 65536 + count (λ k. f k % 65536) n ≡ count f n
+unfolding count
+halves f zero = refl
+halves f (suc n) = omega (arith, halves f n)
 
-module _ {z w x : ℕ → ℤ} {j : ℕ} {s : BlockSums} (so-far : Adds z w x j s) where
-  pub next-added : SFits w16 (w j) → SFits w16 (x j) → Adds z w x (j + 1) (withPair s (w j) (x j) (z j))
+pub none-added : (z w x : ℕ → ℤ) → Adds z w x 0 noSums
+unfolding sumsOf count greatest
+none-added z w x = record { is = refl; fits = λ k h. absurd (omega arith) }
+
+module _ {z w x : ℕ → ℤ} {n : ℕ} {s : BlockSums} (sums : Adds z w x n s) where
+  next-added : SFits w16 (w n) → SFits w16 (x n) → Adds z w x (n + 1) (withPair s (w n) (x n) (z n))
+  unfolding sumsOf
   next-added hw hx =
-      let size : natAbs (w j *ℤ x j) ≤ 2 ^ 30 = true-size hw hx in
-      let minus = minus-le (w j *ℤ x j) in
       record {
-        sizes = omega (arith, so-far .sizes, count-next (λ k. natAbs (w k *ℤ x k)) j);
-        minus = omega (arith, so-far .minus, count-next (λ k. minusSize (w k *ℤ x k)) j);
-        zeros = omega (arith, so-far .zeros, count-next (λ k. nonzero (w k) (x k)) j, counts-once (w j) (x j));
-        largest = ap (λ (y : ℤ). pos (max (natAbs y) (natAbs (z j)))) (so-far .largest) ∙ ap pos (sym (greatest-next (λ k. natAbs (z k)) j));
-        fits = λ k h. either-lt k j (so-far .fits k) (λ b. let e : k ≡ j = omega arith in rw e (hw, hx));
-        sizes-high = omega (arith, so-far .sizes-high);
-        sizes-low = omega (arith, so-far .sizes-low);
-        minus-high = omega (arith, so-far .minus-high);
-        minus-low = omega (arith, so-far .minus-low);
+        is =
+            rw (
+              sums .is,
+              count-next (λ k. natAbs (w k *ℤ x k) / 65536) n,
+              count-next (λ k. natAbs (w k *ℤ x k) % 65536) n,
+              count-next (λ k. minusSize (w k *ℤ x k) / 65536) n,
+              count-next (λ k. minusSize (w k *ℤ x k) % 65536) n,
+              count-next (λ k. 1 - nonzero (w k) (x k)) n,
+              greatest-next (λ k. natAbs (z k)) n,
+            ) refl;
+        fits = λ k h. either-lt k n (sums .fits k) (λ b. let e : k ≡ n = omega arith in rw e (hw, hx));
       }
 
   -- the same with what a loop reads and its callee gives
-  pub turned : {r : ℤ} {s' : BlockSums} → mag (w j) < 2 ^ 15 → mag (x j) < 2 ^ 15 → r ≡ z j → s' ≡ withPair s (toZ w16 (ofZ w16 (w j))) (toZ w16 (ofZ w16 (x j))) r → Adds z w x (j + 1) s'
+  pub turned : {r : ℤ} {s' : BlockSums} → mag (w n) < 2 ^ 15 → mag (x n) < 2 ^ 15 → r ≡ z n → s' ≡ withPair s (toZ w16 (ofZ w16 (w n))) (toZ w16 (ofZ w16 (x n))) r → Adds z w x (n + 1) s'
   turned hw hx er e =
-      let fw : SFits w16 (w j) = record { sfits = hw } in
-      let fx : SFits w16 (x j) = record { sfits = hx } in
+      let fw : SFits w16 (w n) = record { sfits = hw } in
+      let fx : SFits w16 (x n) = record { sfits = hx } in
       rw (e, toZ-ofZ fw, toZ-ofZ fx, er) (next-added fw fx)
 
-  pub all-added : {n m : ℕ} → j ≤ n → n ≤ j → n ≡ m → Adds z w x m s
-  all-added h l e = subst (λ (k : ℕ). Adds z w x k s) (le-antisymm h l ∙ e) so-far
+  pub all-added : {m l : ℕ} → n ≤ m → m ≤ n → m ≡ l → Adds z w x l s
+  all-added h g e = subst (λ (k : ℕ). Adds z w x k s) (le-antisymm h g ∙ e) sums
 
-  pub roomy : j ≤ 64 → Roomy s
+  -- the sums as they are meant
+  pub sizes : s .«sizes_high» * 65536 + s .«sizes_low» ≡ count (λ k. natAbs (w k *ℤ x k)) n
+  unfolding sumsOf
+  sizes = rw (sums .is) (halves (λ k. natAbs (w k *ℤ x k)) n)
+
+  pub minus : s .«minus_high» * 65536 + s .«minus_low» ≡ count (λ k. minusSize (w k *ℤ x k)) n
+  unfolding sumsOf
+  minus = rw (sums .is) (halves (λ k. minusSize (w k *ℤ x k)) n)
+
+  pub zeros : s .«zero_pairs» + count (λ k. nonzero (w k) (x k)) n ≡ n
+  unfolding sumsOf count
+  zeros = rw (sums .is) (counted n)
+    where
+      counted : (m : ℕ) → count (λ k. 1 - nonzero (w k) (x k)) m + count (λ k. nonzero (w k) (x k)) m ≡ m
+      counted zero = refl
+      counted (suc m) = omega (arith, counted m, counts-once (w m) (x m))
+
+  pub largest : s .largest ≡ pos (greatest (λ k. natAbs (z k)) n)
+  unfolding sumsOf
+  largest = rw (sums .is) refl
+
+  pub roomy : n ≤ 64 → Roomy s
+  unfolding sumsOf
   roomy h =
-      record {
-        sizes-high = omega (arith, so-far .sizes-high);
-        sizes-low = omega (arith, so-far .sizes-low);
-        minus-high = omega (arith, so-far .minus-high);
-        minus-low = omega (arith, so-far .minus-low);
-        pairs = omega (arith, so-far .zeros);
-        largest = so-far .largest ∙ ap (λ (y : ℤ). pos (natAbs y)) (sym (so-far .largest));
-      }
+      rw (sums .is)
+      (record {
+        sizes-high = omega (arith, count-size (λ k. natAbs (w k *ℤ x k) / 65536) 65535 n (λ k l. omega (arith, size k l)));
+        sizes-low = omega (arith, count-size (λ k. natAbs (w k *ℤ x k) % 65536) 65535 n (λ k l. omega arith));
+        minus-high = omega (arith, count-size (λ k. minusSize (w k *ℤ x k) / 65536) 65535 n (λ k l. omega (arith, size k l, minus-le (w k *ℤ x k))));
+        minus-low = omega (arith, count-size (λ k. minusSize (w k *ℤ x k) % 65536) 65535 n (λ k l. omega arith));
+        pairs = omega (arith, count-size (λ k. 1 - nonzero (w k) (x k)) 1 n (λ k l. omega arith));
+        largest = refl;
+      })
+    where
+      size : (k : ℕ) → k < n → natAbs (w k *ℤ x k) ≤ 2 ^ 30
+      size k l = true-size (sums .fits k l .0) (sums .fits k l .1)
 
 -- with the same of each pair in other words
 pub added-as : {z z' w w' x x' : ℕ → ℤ} {n : ℕ} {s : BlockSums} → ((k : ℕ) → k < n → (z k ≡ z' k) × (w k ≡ w' k) × (x k ≡ x' k)) → Adds z w x n s → Adds z' w' x' n s
+unfolding sumsOf
 added-as {z} {z'} {w} {w'} {x} {x'} {n} same a =
     record {
-      sizes = a .sizes ∙ count-as n (λ k h. ap₂ (λ (u v : ℤ). natAbs (u *ℤ v)) (same k h .1) (same k h .2));
-      minus = a .minus ∙ count-as n (λ k h. ap₂ (λ (u v : ℤ). minusSize (u *ℤ v)) (same k h .1) (same k h .2));
-      zeros = omega (arith, a .zeros, count-as {f = λ k. nonzero (w k) (x k)} {g = λ k. nonzero (w' k) (x' k)} n (λ k h. ap₂ nonzero (same k h .1) (same k h .2)));
-      largest = a .largest ∙ ap pos (greatest-as n (λ k h. ap natAbs (same k h .0)));
+      is =
+          a .is
+          ∙ rw (
+            of-pairs (λ u v. natAbs (u *ℤ v) / 65536),
+            of-pairs (λ u v. natAbs (u *ℤ v) % 65536),
+            of-pairs (λ u v. minusSize (u *ℤ v) / 65536),
+            of-pairs (λ u v. minusSize (u *ℤ v) % 65536),
+            of-pairs (λ u v. 1 - nonzero u v),
+            greatest-as n (λ k h. ap natAbs (same k h .0)),
+          ) refl;
       fits = λ k h. (subst (SFits w16) (same k h .1) (a .fits k h .0), subst (SFits w16) (same k h .2) (a .fits k h .1));
-      sizes-high = a .sizes-high;
-      sizes-low = a .sizes-low;
-      minus-high = a .minus-high;
-      minus-low = a .minus-low;
     }
+  where
+    of-pairs : (q : ℤ → ℤ → ℕ) → count (λ k. q (w k) (x k)) n ≡ count (λ k. q (w' k) (x' k)) n
+    of-pairs q = count-as n (λ k h. ap₂ q (same k h .1) (same k h .2))

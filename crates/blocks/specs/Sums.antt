@@ -1,7 +1,7 @@
 -- What the pairs of a block add up to. Definitions only.
 use mathlib.Core.Path.{_≡_}
 use mathlib.Core.List.{List}
-use Prim.Native.Nat.{ℕ, max, _+_, _-_, _*_, _/_, _%_, _^_, _≤_, _<_}
+use Prim.Native.Nat.{ℕ, max, _+_, _-_, _/_, _%_, _^_, _≤_, _<_}
 use lib.IntN.{ℤ, pos, natAbs, _*ℤ_}
 use lib.ListN.{length}
 use mir.Syntax.{w16}
@@ -41,17 +41,22 @@ pub record Roomy (s : BlockSums) : Type 0 where
   pub pairs : s .«zero_pairs» < 2 ^ 31
   pub largest : s .largest ≡ pos (natAbs (s .largest))
 
--- The sums of n pairs: pair k has the numbers w k and x k, which are 16-bit numbers, and leaves z k. Each half has a bound that n gives it.
+-- The sums of n pairs, of which pair k has the numbers w k and x k and leaves z k.
+unfoldable pub sumsOf : (ℕ → ℤ) → (ℕ → ℤ) → (ℕ → ℤ) → ℕ → BlockSums
+sumsOf z w x n =
+    record {
+      «sizes_high» = count (λ k. natAbs (w k *ℤ x k) / 65536) n;
+      «sizes_low» = count (λ k. natAbs (w k *ℤ x k) % 65536) n;
+      «minus_high» = count (λ k. minusSize (w k *ℤ x k) / 65536) n;
+      «minus_low» = count (λ k. minusSize (w k *ℤ x k) % 65536) n;
+      «zero_pairs» = count (λ k. 1 - nonzero (w k) (x k)) n;
+      largest = pos (greatest (λ k. natAbs (z k)) n);
+    }
+
+-- s are these sums, and the pairs have 16-bit numbers
 pub record Adds (z w x : ℕ → ℤ) (n : ℕ) (s : BlockSums) : Type 0 where
-  pub sizes : s .«sizes_high» * 65536 + s .«sizes_low» ≡ count (λ k. natAbs (w k *ℤ x k)) n
-  pub minus : s .«minus_high» * 65536 + s .«minus_low» ≡ count (λ k. minusSize (w k *ℤ x k)) n
-  pub zeros : s .«zero_pairs» + count (λ k. nonzero (w k) (x k)) n ≡ n
-  pub largest : s .largest ≡ pos (greatest (λ k. natAbs (z k)) n)
+  pub is : s ≡ sumsOf z w x n
   pub fits : (k : ℕ) → k < n → SFits w16 (w k) × SFits w16 (x k)
-  pub sizes-high : s .«sizes_high» ≤ n * 65535
-  pub sizes-low : s .«sizes_low» ≤ n * 65535
-  pub minus-high : s .«minus_high» ≤ n * 65535
-  pub minus-low : s .«minus_low» ≤ n * 65535
 
 -- how many pairs a block takes of two slices
 abbrev pub taken : List ℤ → List ℤ → ℕ

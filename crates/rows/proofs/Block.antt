@@ -15,6 +15,7 @@ use Rattle.blocks.specs.Counts.{total, count, greatest}
 use Rattle.blocks.specs.Residues.{ofPair}
 use Rattle.blocks.specs.Sums.{Adds}
 use Rattle.blocks.specs.declared.sums.BlockSums.{BlockSums}
+use Rattle.blocks.proofs.Adding.{minus, sizes, zeros}
 use Rattle.blocks.proofs.Counts.{count-more, greatest-bounds, greatest-met, total-more}
 use Rattle.rows.specs.Totals.{Truth, withAll}
 use Rattle.rows.specs.Worst.{Comparable, First, WorstOf}
@@ -46,10 +47,10 @@ truth-more {ws} {fs} {from} {end} {s} {all = all} e w so-far upward adds =
     (record {
       true-is =
           +ℤ-assoc (s .«true_sum») _ _
-          ∙ ap₂ _+ℤ_ (so-far .true-is) (ap₂ (λ (a m : ℕ). pos a -ℤ pos (2 * m)) (adds .sizes) (adds .minus) ∙ sym (by-sizes (λ k. products (from + k)) (end - from)))
+          ∙ ap₂ _+ℤ_ (so-far .true-is) (ap₂ (λ (a m : ℕ). pos a -ℤ pos (2 * m)) (sizes adds) (minus adds) ∙ sym (by-sizes (λ k. products (from + k)) (end - from)))
           ∙ sym (total-more products from (end - from));
-      magnitude-is = omega (arith, so-far .magnitude-is, adds .sizes, count-more (λ k. natAbs (products k)) from (end - from));
-      pairs-is = omega (arith, so-far .pairs-is, adds .zeros, count-more (ofPair nonzero ws fs) from (end - from));
+      magnitude-is = omega (arith, so-far .magnitude-is, sizes adds, count-more (λ k. natAbs (products k)) from (end - from));
+      pairs-is = omega (arith, so-far .pairs-is, zeros adds, count-more (ofPair nonzero ws fs) from (end - from));
       fits = λ k h. either-lt k from (so-far .fits k) (λ b. let same : from + (k - from) ≡ k = omega arith in rw same at (adds .fits (k - from) (omega arith)));
     })
 

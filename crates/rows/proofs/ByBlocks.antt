@@ -16,8 +16,9 @@ use Rattle.blocks.specs.Sums.{Adds, Taken, taken, TakenByStages}
 use Rattle.blocks.specs.declared.sums.BlockSums.{BlockSums}
 use Rattle.blocks.proofs.Adding.{added-as}
 use Rattle.rows.specs.Answers.{Ready}
-use Rattle.rows.specs.Totals.{Addable, Going, Reached}
+use Rattle.rows.specs.Totals.{Addable, Going, noSums, Reached}
 use Rattle.rows.specs.declared.sums.Sums.{Sums}
+use Rattle.rows.proofs.Turn.{nothing}
 
 -- the numbers from `from` up to `end`, as the code lends them
 abbrev part : List ℤ → ℕ → ℕ → List ℤ
@@ -30,21 +31,41 @@ module _ (ws : List ℤ) (from end : ℕ) (inside : end ≤ length ws) where
   part-at : (k : ℕ) → k < end - from → place (part ws from end) k ≡ place ws (from + k)
   part-at k h = getD-take (end - from) (drop from ws) k (pos 0) h ∙ getD-drop from ws k (pos 0)
 
+-- what a loop over blocks keeps: a row that can be scored has been reached as far as pair `at`, and goes on to pair `to`
+pub record Blocks (D : Design) (size : ℕ) (ws fs before after : List ℤ) (to at : ℕ) (s : Sums) (block : List ℤ) : Type 0 where
+  pub ready : Ready D ws fs before
+  pub within : to ≤ length ws
+  pub inside : at ≤ to
+  pub reached : Reached (ofPair (residue D) ws fs) ws fs before after at s
+  pub places : length block ≡ size
+
+-- no block is to be taken
+pub none : {D : Design} {ws fs before : List ℤ} {to : ℕ} {s : Sums} → to ≡ 0 → s ≡ noSums → Going D ws fs before before to s
+none z e = rw (z, e) (record { inside = omega arith; reached = nothing _ _ _ _ })
+
+module _ {D : Design} {size : ℕ} {ws fs before : List ℤ} {to : ℕ} {block : List ℤ} where
+  pub begun : Ready D ws fs before × (to ≤ length ws) → {s : Sums} → s ≡ noSums → length block ≡ size → Blocks D size ws fs before before to 0 s block
+  begun (ready, within) e places = record { ready = ready; within = within; inside = omega arith; reached = rw e (nothing _ _ _ _); places = places }
+
+  pub ended : {after : List ℤ} {at : ℕ} {s : Sums} → Blocks D size ws fs before after to at s block → to ≤ at → Going D ws fs before after to s
+  ended {after} {at} {s} loop h =
+      let end : at ≡ to = omega (arith, loop .inside) in
+      record { inside = loop .within; reached = subst (λ (n : ℕ). Reached (ofPair (residue D) ws fs) ws fs before after n s) end (loop .reached) }
+
 -- the next n pairs can be added from a block
 abbrev pub NextBlock : Design → List ℤ → List ℤ → List ℤ → List ℤ → ℕ → Sums → ℕ → BlockSums → List ℤ → Type 0
 NextBlock D ws fs before after at s n all block = Addable (ofPair (residue D) ws fs) ws fs before after s all block at (at + n)
 
--- they are at most 64, and go no further than pair `to`
-module _ {D : Design} {ws fs before after : List ℤ} {at n to : ℕ} {s : Sums} (ready : Ready D ws fs before) (within : to ≤ length ws) (so-far : Going D ws fs before after at s)
-    (count : n ≡ min (to - at) 64) where
+-- a turn: they are at most 64, and go no further than pair `to`
+module _ {D : Design} {size : ℕ} {ws fs before after block : List ℤ} {at n to : ℕ} {s : Sums} (loop : Blocks D size ws fs before after to at s block) (count : n ≡ min (to - at) 64) where
   abbrev end : ℕ
   end = at + n
 
   in-row : end ≤ length ws
-  in-row = omega (arith, so-far .inside)
+  in-row = omega (arith, loop .inside, loop .within)
 
   in-frame : end ≤ length fs
-  in-frame = omega (arith, in-row, ready .lengths)
+  in-frame = omega (arith, in-row, loop .ready .lengths)
 
   -- the part that the block takes
   abbrev us : List ℤ
@@ -56,50 +77,46 @@ module _ {D : Design} {ws fs before after : List ℤ} {at n to : ℕ} {s : Sums}
   all-taken : taken us vs ≡ end - at
   all-taken = omega (arith, part-length ws at end in-row, part-length fs at end in-frame)
 
-  addable : {all : BlockSums} {block : List ℤ} → 64 ≤ length block → ((k : ℕ) → k < taken us vs → place block k ≡ ofPair (residue D) us vs k)
-      → Adds (ofPair (residue D) us vs) (place us) (place vs) (taken us vs) all → NextBlock D ws fs before after at s n all block
+  addable : {all : BlockSums} {block' : List ℤ} → 64 ≤ length block' → ((k : ℕ) → k < taken us vs → place block' k ≡ ofPair (residue D) us vs k)
+      → Adds (ofPair (residue D) us vs) (place us) (place vs) (taken us vs) all → NextBlock D ws fs before after at s n all block'
   addable {all} room holds adds =
       let weight = part-at ws at end in-row in
       let number = part-at fs at end in-frame in
       record {
-        reached = so-far .reached;
+        reached = loop .reached;
         in-block =
             record {
               upward = omega arith;
-              pairs = omega (arith, in-row, ready .pairs);
+              pairs = omega (arith, in-row, loop .ready .pairs);
               few = omega arith;
               places = omega arith;
               filled = λ k h. holds k (omega (arith, all-taken)) ∙ ap₂ (residue D) (weight k h) (number k h);
             };
-        room = omega (arith, in-row, ready .places);
+        room = omega (arith, in-row, loop .ready .places);
         adds = added-as (λ k h. (ap₂ (residue D) (weight k h) (number k h), weight k h, number k h)) (rw all-taken at adds);
       }
 
-  -- taken by a design that has another name too
-  pub taken-as : {E : Design} → E ≡ D → {all : BlockSums} {block block' : List ℤ} → length block ≡ 64 → Taken E us vs block block' all → NextBlock D ws fs before after at s n all block'
-  taken-as same room by =
-      let here = rw same at by in
-      addable (omega (arith, by .filled .size)) (λ k h. here .filled .first k h) (here .adds)
-
-  pub taken-by : {all : BlockSums} {block block' : List ℤ} → length block ≡ 64 → Taken D us vs block block' all → NextBlock D ws fs before after at s n all block'
-  taken-by = taken-as refl
-
-  pub on : at ≤ to → {after : List ℤ} {s : Sums} → Reached (ofPair (residue D) ws fs) ws fs before after end s → (end ≤ to) × Going D ws fs before after end s
-  on h reached = (omega arith, record { inside = in-row; reached = reached })
+  pub on : {after' block' : List ℤ} {s' : Sums} → length block' ≡ length block → Reached (ofPair (residue D) ws fs) ws fs before after' end s' → Blocks D size ws fs before after' to end s' block'
+  on same reached = record { ready = loop .ready; within = loop .within; inside = omega (arith, loop .inside); reached = reached; places = same ∙ loop .places }
 
   pub fewer-left : at < to → to - end < to - at
   fewer-left h = omega arith
 
--- by stages a pair has two places
-pub taken-by-stages : {t : ℕ} {ws fs before after block block' : List ℤ} {at n to : ℕ} {s : Sums} {all : BlockSums} (ready : Ready (staged t) ws fs before) (within : to ≤ length ws)
-    (so-far : Going (staged t) ws fs before after at s) (count : n ≡ min (to - at) 64) → length block ≡ 128
-    → TakenByStages t (us ready within so-far count) (vs ready within so-far count) block block' all → NextBlock (staged t) ws fs before after at s n all block'
-taken-by-stages {t} ready within so-far count room by =
-    let us' = us ready within so-far count in
-    let vs' = vs ready within so-far count in
-    addable ready within so-far count (omega (arith, by .filled .size))
-    (λ k h. by .filled .first k (omega arith) ∙ in-first (taken us' vs') (ofPair (residue (staged t)) us' vs') (λ i. leftℤ t (place vs' i)) k h) (by .adds)
+-- a block that has been taken, by a design that may have another name too
+module _ {D : Design} {ws fs before after block : List ℤ} {at n to : ℕ} {s : Sums} (loop : Blocks D 64 ws fs before after to at s block) (count : n ≡ min (to - at) 64) where
+  pub taken-as : {E : Design} → E ≡ D → {all : BlockSums} {block' : List ℤ} → Taken E (us loop count) (vs loop count) block block' all → NextBlock D ws fs before after at s n all block'
+  taken-as same by =
+      let here = rw same at by in
+      addable loop count (omega (arith, by .filled .size, loop .places)) (λ k h. here .filled .first k h) (here .adds)
 
--- as far as it should go
-pub there : {D : Design} {ws fs before after : List ℤ} {at to : ℕ} {s : Sums} → at ≤ to → to ≤ at → Going D ws fs before after at s → Going D ws fs before after to s
-there {D} {ws} {fs} {before} {after} {at} {to} {s} h l so-far = let end : at ≡ to = omega arith in subst (λ (n : ℕ). Going D ws fs before after n s) end so-far
+  pub taken-by : {all : BlockSums} {block' : List ℤ} → Taken D (us loop count) (vs loop count) block block' all → NextBlock D ws fs before after at s n all block'
+  taken-by = taken-as refl
+
+-- by stages a pair has two places
+pub taken-by-stages : {t : ℕ} {ws fs before after block block' : List ℤ} {at n to : ℕ} {s : Sums} {all : BlockSums} (loop : Blocks (staged t) 128 ws fs before after to at s block)
+    (count : n ≡ min (to - at) 64) → TakenByStages t (us loop count) (vs loop count) block block' all → NextBlock (staged t) ws fs before after at s n all block'
+taken-by-stages {t} loop count by =
+    let us' = us loop count in
+    let vs' = vs loop count in
+    addable loop count (omega (arith, by .filled .size, loop .places))
+    (λ k h. by .filled .first k (omega arith) ∙ in-first (taken us' vs') (ofPair (residue (staged t)) us' vs') (λ i. leftℤ t (place vs' i)) k h) (by .adds)

@@ -16,9 +16,8 @@ use Rattle.pairs.proofs.Integers.{read-back}
 use Rattle.patterns.specs.Blocks.{place}
 use Rattle.blocks.specs.Residues.{ofPair}
 use Rattle.rows.specs.Answers.{Ready}
-use Rattle.rows.specs.Totals.{Complete, Going, noSums, Reached, Turnable}
+use Rattle.rows.specs.Totals.{Complete, Going, Reached, Turnable}
 use Rattle.rows.specs.declared.sums.Sums.{Sums}
-use Rattle.rows.proofs.Turn.{nothing}
 
 -- what a turn asks of the next pair, as it is read, and of its residue, as a callee gives it
 abbrev pub NextPair : Design → List ℤ → List ℤ → List ℤ → List ℤ → ℕ → Sums → ℤ → Type 0
@@ -26,9 +25,6 @@ NextPair D ws fs before after at s r =
     Turnable (ofPair (residue D) ws fs) ws fs before after at s (toZ w16 (ofZ w16 (place ws at))) (toZ w16 (ofZ w16 (place fs at))) (toZ w32 (ofZ w32 r))
 
 module _ {D : Design} {ws fs before : List ℤ} where
-  pub begun : {s : Sums} → s ≡ noSums → Going D ws fs before before 0 s
-  begun e = record { inside = omega arith; reached = rw e (nothing _ _ _ _) }
-
   pub on : {after : List ℤ} {at : ℕ} {s : Sums} → at < length ws → Reached (ofPair (residue D) ws fs) ws fs before after (at + 1) s → Going D ws fs before after (at + 1) s
   on h reached = record { inside = omega arith; reached = reached }
 

@@ -22,8 +22,8 @@ use Rattle.designs.proofs.Demand.{demand}
 use Rattle.designs.proofs.Refusals.{none, refuses, gives}
 use Rattle.designs.proofs.Settings.{by-design, keeps}
 use Rattle.patterns.specs.Patterns.{clamped}
-use Rattle.rows.specs.Answers.{inBlocks, reportOf, Ready, Scoring, Small}
-use Rattle.rows.specs.Totals.{Complete, Going, Ongoing, reportBy, Roomy}
+use Rattle.rows.specs.Answers.{reportOf, Ready, Scoring, Small}
+use Rattle.rows.specs.Totals.{Complete, Going, inBlocks, Ongoing, reportBy, Roomy}
 use Rattle.rows.specs.declared.Scored.the-variants as S
 use Rattle.rows.specs.declared.RowReport.{RowReport}
 use Rattle.rows.specs.declared.sums.Sums.{Sums}

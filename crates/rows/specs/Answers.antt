@@ -1,9 +1,7 @@
 -- What an answer of a row says, and what it promises. Definitions only.
 use mathlib.Core.Path.{_≡_}
-use mathlib.Core.Bool.{cond}
-use Prim.Native.Nat.{ℕ, _*_, _/_, _^_, _≤_, _<_}
+use Prim.Native.Nat.{ℕ, _^_, _≤_, _<_}
 use mathlib.Core.List.{List}
-use lib.Dec.{ltb}
 use lib.IntN.{ℤ, pos, natAbs}
 use lib.ListN.{length, getD}
 use mir.Syntax.{w16}
@@ -60,7 +58,3 @@ pub record Ready (D : Design) (ws fs before : List ℤ) : Type 0 where
   pub lengths : length ws ≡ length fs
   pub pairs : length ws ≤ 4096
   pub places : length ws ≤ length before
-
--- how many of n pairs go by blocks
-abbrev pub inBlocks : ℕ → ℕ
-inBlocks n = cond (ltb n 8) 0 (n / 4 * 4)

@@ -1,7 +1,9 @@
 -- What the loops over a row keep: totals over its first pairs, the worst of these, and their residues in the first places. Definitions only.
 use mathlib.Core.Path.{_≡_}
-use Prim.Native.Nat.{ℕ, _+_, _-_, _*_, _^_, _≤_, _<_}
+use mathlib.Core.Bool.{cond}
+use Prim.Native.Nat.{ℕ, _+_, _-_, _*_, _/_, _^_, _≤_, _<_}
 use mathlib.Core.List.{List}
+use lib.Dec.{ltb}
 use lib.IntN.{ℤ, pos, natAbs, _+ℤ_, _-ℤ_, _*ℤ_}
 use lib.ListN.{length}
 use Rattle.designs.specs.Designs.{Design}
@@ -16,6 +18,10 @@ use Rattle.rows.specs.Answers.{Fits16, Ready}
 use Rattle.rows.specs.Worst.{InBlock, noWorst, withResidue, WorstOf}
 use Rattle.rows.specs.declared.sums.Sums.{Sums}
 use Rattle.rows.specs.declared.worst.Worst.{Worst}
+
+-- how many of n pairs go by blocks
+abbrev pub inBlocks : ℕ → ℕ
+inBlocks n = cond (ltb n 8) 0 (n / 4 * 4)
 
 -- sums that have room for a pair more
 pub record Roomy (s : Sums) : Type 0 where

@@ -2,7 +2,8 @@
 // residue of each pair goes to a slice that the caller lends.
 ghost use mathlib.Core.Path.{_≡_};
 ghost use Rattle.designs.specs.Rows.{emptyReport};
-ghost use Rattle.rows.specs.Answers.{inBlocks, Scoring, reportOf};
+ghost use Rattle.rows.specs.Answers.{Scoring, reportOf};
+ghost use Rattle.rows.specs.Totals.{inBlocks};
 
 mod by_blocks;
 mod one_by_one;

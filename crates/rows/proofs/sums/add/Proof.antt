@@ -9,6 +9,7 @@ use mir.Syntax.{w32, w64}
 use mir.Val.{toZ, ofZ}
 use mir.Facts.{toZ-ofZ}
 use Rattle.signs.proofs.Integers.{sized}
+use Rattle.blocks.proofs.Adding.{largest, zeros}
 use Rattle.rows.specs.Totals.{Addable, Writable}
 use Rattle.rows.specs.Worst.{Comparable}
 use Rattle.rows.proofs.Block.{truth-more}
@@ -28,11 +29,11 @@ module _ (s : tie.Start) where
         record { written = rw error (ok .reached .written); in-block = ok .in-block; room = ok .room }
 
     comparable : toZ w32 (ofZ w32 (s .args .all .largest)) ≡ s .args .all .largest → let a = s .args in Comparable z (a .sums .worst) (toZ w32 (ofZ w32 (a .all .largest))) (a .block .now) (a .from) (a .end)
-    comparable e = record { so-far = ok .reached .worst; in-block = ok .in-block; is = e ∙ ok .adds .largest }
+    comparable e = record { so-far = ok .reached .worst; in-block = ok .in-block; is = e ∙ largest (ok .adds) }
 
 -- the largest residue of the block, as it is read
-largest : (c : tie.After-struct-told2) → let all = c .before .before .before .before .before .args .all in toZ w32 (ofZ w32 (all .largest)) ≡ all .largest
-largest c = toZ-ofZ (record { sfits = c .struct-told2 .given .1 .1 .1 .1 .1 .0 .1 })
+read : (c : tie.After-struct-told2) → let all = c .before .before .before .before .before .args .all in toZ w32 (ofZ w32 (all .largest)) ≡ all .largest
+read c = toZ-ofZ (record { sfits = c .struct-told2 .given .1 .1 .1 .1 .1 .0 .1 })
 
 returns : tie.Need-returns
 returns c z ws fs before ok =
@@ -44,7 +45,7 @@ returns c z ws fs before ok =
     (record {
       truth = truth-more _ _ (ok .reached .truth) (ok .in-block .upward) (ok .adds);
       written = rw error (written .write .ensures z before (writable start ok));
-      worst = c .before .with-block .ensures z (comparable start ok (largest told));
+      worst = c .before .with-block .ensures z (comparable start ok (read told));
     })
 
 pub add-spec : {M : Type 1} → statement M
@@ -52,7 +53,7 @@ add-spec =
     tie.close
     (tie.spec
     (λ c κs. (_, (_, writable (c .before .before) (c .before .before .pre .1 .1 .1 .1))))
-    (λ c κs. let start = c .before .before .before .before .before in (_, comparable start (start .pre .1 .1 .1 .1) (largest c)))
-    (λ c κs. let ok = c .before .before .before .before .before .before .pre .1 .1 .1 .1 in (roomy (ok .reached) (omega (arith, ok .in-block .upward, ok .in-block .pairs)), omega (arith, ok .adds .zeros, ok .in-block .few)))
+    (λ c κs. let start = c .before .before .before .before .before in (_, comparable start (start .pre .1 .1 .1 .1) (read c)))
+    (λ c κs. let ok = c .before .before .before .before .before .before .pre .1 .1 .1 .1 in (roomy (ok .reached) (omega (arith, ok .in-block .upward, ok .in-block .pairs)), omega (arith, zeros (ok .adds), ok .in-block .few)))
     (λ c. search needs)
     returns)
