@@ -62,7 +62,7 @@ pub record Adds (z w x : ℕ → ℤ) (n : ℕ) (s : BlockSums) : Type 0 where
 abbrev pub taken : List ℤ → List ℤ → ℕ
 taken ws fs = pairsOf (length ws) (length fs) 64
 
--- a block that holds the residues of these pairs, none of them of size 2^31
+-- a block with a place for each of these pairs, and in those places numbers of sizes below 2^31
 pub record Held (ws fs block : List ℤ) : Type 0 where
   pub places : 64 ≤ length block
   pub small : (k : ℕ) → k < taken ws fs → natAbs (place block k) < 2 ^ 31

@@ -1,7 +1,7 @@
 -- The worst of some numbers. One number more in front either is worse than the rest or leaves its worst one place further on, so the
 -- definitions give it; and as many more behind either keep it or have a worse one, which is how a loop finds it. Assumes nothing.
 use mathlib.Core.Path.{_≡_, refl, sym, ap, _∙_}
-use Prim.Native.Nat.{ℕ, zero, suc, _+_, _-_, _*_, _≤_, _<_}
+use Prim.Native.Nat.{ℕ, zero, suc, _+_, _-_, _≤_, _<_}
 use native.Mathlib.Nat.{le-of-lt, le-trans, max-eq-left, max-eq-right}
 use native.Mathlib.Omega.{arith}
 use mathlib.Core.List.{List, [], _∷_}

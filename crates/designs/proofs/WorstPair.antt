@@ -1,12 +1,12 @@
 -- What the last two fields of every report say. They are the worst of the residues by their definitions; and a pair with a zero leaves
 -- nothing, so of the others, which are n, each adds at most the largest size to the error. Assumes nothing.
 use mathlib.Core.Path.{_≡_, ap, _∙_}
-use Prim.Native.Nat.{ℕ, zero, suc, _+_, _*_, _≤_}
+use Prim.Native.Nat.{ℕ, zero, suc, _*_, _≤_}
 use native.Mathlib.Nat.{mul-le-mul-right}
 use native.Mathlib.Omega.{arith}
 use mathlib.Core.List.{List, [], _∷_}
 use lib.IntN.{ℤ, natAbs, _*ℤ_}
-use Rattle.designs.specs.Designs.{Design, product, unlessZero}
+use Rattle.designs.specs.Designs.{Design, unlessZero}
 use Rattle.designs.specs.Rows.{largestSize, nonzero, pairwise, report, residues, sum, sumℤ}
 use Rattle.designs.specs.Signs.{residue, signedProduct}
 use Rattle.designs.specs.Worst.{WorstPair}

@@ -1,6 +1,6 @@
 -- A row that goes by blocks, by any design. A block takes a part of the row, whose place k is place at + k of the row; so a block that is
 -- taken of the part holds the residues of the row's pairs and their sums, and can be added. Assumes nothing.
-use mathlib.Core.Path.{_≡_, refl, sym, ap, ap₂, _∙_, subst}
+use mathlib.Core.Path.{_≡_, refl, ap₂, _∙_, subst}
 use Prim.Native.Nat.{ℕ, min, _+_, _-_, _≤_, _<_}
 use native.Mathlib.Omega.{arith}
 use mathlib.Core.List.{List}

@@ -1,11 +1,10 @@
 -- The sum of the patterns stands for the product of design 1, which is taken off the true product. Assumes nothing.
 use borrow.Author.Needs.{needs}
-use mathlib.Core.Path.{_≡_, ap, ap₂, _∙_}
+use mathlib.Core.Path.{_≡_, ap₂, _∙_}
 use Prim.Native.Nat.{ℕ, _+_, _%_, _^_}
 use lib.IntN.{_*ℤ_}
 use mir.Syntax.{w32}
 use mir.Val.{toZ, ofZ}
-use mir.Facts.{toZ-ofZ}
 use Rattle.designs.specs.Designs.{mitchell}
 use Rattle.designs.specs.Signs.{signedProduct}
 use Rattle.patterns.specs.Patterns.{Less}

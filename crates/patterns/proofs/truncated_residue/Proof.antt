@@ -7,7 +7,6 @@ use lib.Bits.{bitAnd}
 use lib.IntN.{_*ℤ_}
 use mir.Syntax.{w32}
 use mir.Val.{toZ, ofZ}
-use mir.Facts.{toZ-ofZ}
 use Rattle.designs.specs.Designs.{truncated}
 use Rattle.designs.specs.Signs.{residue, signedProduct}
 use Rattle.patterns.specs.Patterns.{Less}

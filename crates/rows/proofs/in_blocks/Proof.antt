@@ -1,7 +1,7 @@
 -- The test is the definition's. Assumes nothing.
 use borrow.Author.Needs.{needs}
 use borrow.Author.Tests.{le-ltb, lt-ltb}
-use mathlib.Core.Path.{_≡_, refl}
+use mathlib.Core.Path.{refl}
 use Rattle.rows.proofs.in_blocks.Statement.{statement}
 use Rattle.rows.proofs.in_blocks.Tie as tie
 

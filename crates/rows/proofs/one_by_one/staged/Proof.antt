@@ -1,7 +1,7 @@
 -- Each turn brings the residue of its pair, and `turn` takes what was reached a pair further, whatever the places held before the row.
 -- Assumes nothing.
 use borrow.Author.Needs.{needs}
-use mathlib.Core.Path.{_≡_, sym, _∙_}
+use mathlib.Core.Path.{sym, _∙_}
 use Prim.Native.Nat.{_-_}
 use mathlib.Core.List.{List}
 use lib.IntN.{ℤ}
