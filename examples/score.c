@@ -1,4 +1,4 @@
-/* Scores a frame of sound with one row of a weight store, and hands the score out. */
+/* Scores a frame of sound with one row of a weight store, hands the score out, and scores the frame with all rows at once. */
 #include <inttypes.h>
 #include <stdio.h>
 #include "highvane.h"
@@ -18,7 +18,7 @@ static int refused(const char *what, uint32_t refusal) {
 
 int main(void) {
     const int16_t frame[COLUMNS] = {3, 6, 7};
-    int64_t residues[COLUMNS];
+    int64_t residues[COLUMNS], scores[ROWS];
     const size_t row = 1;
 
     /* An accepted row is the part of the store that begins at row * columns. */
@@ -41,5 +41,13 @@ int main(void) {
     printf("handed out: score %g, T %g\n", scaled.score, scaled.magnitude_sum);
 
     /* Rows are numbered from 0, so this store has no row 2. */
-    return !refused("find row 2", highvane_row_refusal(store, STORE, COLUMNS, 2));
+    if (!refused("find row 2", highvane_row_refusal(store, STORE, COLUMNS, 2)))
+        return 1;
+
+    /* The score of each row alone, in one call. */
+    highvane_layer layer = highvane_score_layer(HIGHVANE_MITCHELL, 0, store, STORE, COLUMNS, frame, COLUMNS, scores, ROWS);
+    if (refused("score all rows", layer.refusal))
+        return 1;
+    printf("%" PRIu64 " rows at once: scores %" PRId64 ", %" PRId64 "\n", layer.rows, scores[0], scores[1]);
+    return 0;
 }

@@ -9,7 +9,8 @@
  * What no proof covers, and the caller owes:
  * - A pointer is aligned for its type and points at as many elements as the length beside it says; `out` points at
  *   HIGHVANE_TRANSCRIPT_MAX bytes. Where a length is 0, its pointer is not followed and may be anything, NULL too.
- * - The buffer that is written (residues, out) overlaps no other argument. Buffers that are only read may overlap or be the same.
+ * - The buffer that is written (residues, scores, out) overlaps no other argument. Buffers that are only read may overlap or be
+ *   the same.
  * - The code is for x86-64 and its System V ABI. It keeps numbers in the 128 bytes below the stack pointer (the red zone) and in
  *   the SSE registers. Programs of an operating system need not care. In a kernel or on the bare machine an interrupt handler that
  *   runs on the stack it interrupts would write over those bytes: call with interrupts off there, or on a stack that no handler
@@ -30,10 +31,10 @@ extern "C" {
 
 /* The version. Code that works with one version works, compiled again, with every later one of the same first number. */
 #define HIGHVANE_VERSION_MAJOR 2
-#define HIGHVANE_VERSION_MINOR 4
+#define HIGHVANE_VERSION_MINOR 5
 #define HIGHVANE_VERSION_PATCH 0
 
-/* The designs, each with the settings that it takes at width w; rows have width 16. */
+/* The designs, each with the settings that it takes at width w; rows and layers have width 16. */
 enum highvane_design {
     HIGHVANE_MITCHELL = 1,       /* setting 0 */
     HIGHVANE_NEAREST_POWER = 2,  /* setting 0 */
@@ -64,7 +65,8 @@ enum highvane_refusal {
     HIGHVANE_UNKNOWN_KIND = 17,
     HIGHVANE_CUT_SHORT = 18,
     HIGHVANE_INPUT_TOO_LONG = 19,
-    HIGHVANE_SECOND_OPERAND_OUTSIDE_WIDTH = 20
+    HIGHVANE_SECOND_OPERAND_OUTSIDE_WIDTH = 20,
+    HIGHVANE_SCORES_TOO_SHORT = 21
 };
 
 /* What a refusal means, as a sentence without a full stop; also for 0, and for a number that is no refusal. */
@@ -96,6 +98,7 @@ const char *highvane_refusal_text(uint32_t refusal) {
     case HIGHVANE_CUT_SHORT: return "the record's body is cut short";
     case HIGHVANE_INPUT_TOO_LONG: return "the input is longer than 65,536 bytes";
     case HIGHVANE_SECOND_OPERAND_OUTSIDE_WIDTH: return "only the second operand is outside the width";
+    case HIGHVANE_SCORES_TOO_SHORT: return "there are fewer places for the scores than rows";
     default: return "no refusal has this number";
     }
 }
@@ -112,6 +115,7 @@ typedef struct {
     uint64_t magnitude_sum, nonzero_pairs, largest_residue, largest_place;
     uint32_t refusal;
 } highvane_report;
+typedef struct { uint64_t rows; uint32_t refusal; } highvane_layer;
 typedef struct { double score, magnitude_sum; uint32_t refusal; } highvane_scaled;
 typedef struct { float value; uint32_t refusal; } highvane_single;
 
@@ -177,6 +181,19 @@ highvane_report highvane_score_row_twice_truncated(uint32_t setting, const int16
 uint32_t highvane_row_refusal(const int16_t *store, size_t store_len, size_t columns, size_t row);
 
 /*
+ * Scores a layer: each row of a weight store, laid out as for highvane_row_refusal, against the one frame. scores[r] becomes the
+ * score of row r, which is that of highvane_score_row for its weights and the frame; later places keep what they held. `rows` is
+ * how many rows there are, store_len / columns. A store without rows is accepted, and nothing is written.
+ *
+ * There are no reports here, but what is said of a row's error above holds of each place that is written: of the true sum of that
+ * row less its score, with T and n of that row.
+ *
+ * Refusals: 1, 3, 12, 13, 5, 21. Here 5 says that frame_len is not `columns`.
+ */
+highvane_layer highvane_score_layer(uint32_t design, uint32_t setting, const int16_t *store, size_t store_len, size_t columns,
+                                    const int16_t *frame, size_t frame_len, int64_t *scores, size_t scores_len);
+
+/*
  * Hands out a score and its T, each divided by 2^shift as an exact double: nothing is rounded, and 0 comes out as +0.
  * Refusals: 15, 16.
  */
@@ -224,6 +241,7 @@ HIGHVANE_ASSERT(highvane_signed_layout, sizeof(highvane_signed) == 16 && offseto
 HIGHVANE_ASSERT(highvane_report_layout, sizeof(highvane_report) == 64 && offsetof(highvane_report, magnitude_sum) == 24
                                             && offsetof(highvane_report, largest_place) == 48
                                             && offsetof(highvane_report, refusal) == 56);
+HIGHVANE_ASSERT(highvane_layer_layout, sizeof(highvane_layer) == 16 && offsetof(highvane_layer, refusal) == 8);
 HIGHVANE_ASSERT(highvane_scaled_layout, sizeof(highvane_scaled) == 24 && offsetof(highvane_scaled, refusal) == 16);
 HIGHVANE_ASSERT(highvane_single_layout, sizeof(highvane_single) == 8 && offsetof(highvane_single, refusal) == 4);
 

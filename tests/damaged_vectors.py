@@ -15,16 +15,24 @@ import sys
 VECTORS = pathlib.Path(__file__).resolve().parent.parent / 'crates/vectors'
 # more than the program reads
 CAPACITY = 1 << 21
-GROUPS = {'u': 'products', 's': 'products', 'r': 'rows', 't': 'stores', 'h': 'scores', 'f': 'singles'}
-# where the refusal stands, the first field of the answer; of a row it is behind two lists
+GROUPS = {'u': 'products', 's': 'products', 'r': 'rows', 't': 'stores', 'l': 'layers', 'h': 'scores', 'f': 'singles'}
+# where the refusal stands, the first field of the answer; of a row and of a layer it is behind two lists
 REFUSAL = {'u': 6, 's': 6, 't': 4, 'h': 4, 'f': 3}
+# where the first of these lists begins, and how many fields stand between the two
+FIRST_LIST, BETWEEN = {'r': 3, 'l': 5}, {'r': 0, 'l': 1}
+# how many fields of an answer stand before the numbers of the list that ends it
+BEFORE_NUMBERS = {'r': 9, 'l': 2}
+
+
+def after_list(words, at):
+    return at + 1 + int(words[at])
 
 
 def refusal_at(words):
-    if words[0] in REFUSAL:
-        return REFUSAL[words[0]]
-    frame = 4 + int(words[3])
-    return frame + 1 + int(words[frame]) + 1
+    kind = words[0]
+    if kind in REFUSAL:
+        return REFUSAL[kind]
+    return after_list(words, after_list(words, FIRST_LIST[kind]) + BETWEEN[kind]) + 1
 
 
 def with_word(at, change):
@@ -43,6 +51,20 @@ def letter(word):
     return word[:-1] + 'o'
 
 
+def with_store(change):
+    """A damage that changes the list that a store repeats, from its numbers and how many they come to."""
+    def damage(words):
+        end = after_list(words, 5)
+        numbers = change(words[6:end], int(words[4]))
+        return ' '.join(words[:5] + [str(len(numbers))] + numbers + words[end:])
+    return damage
+
+
+# of a refused layer, whose answer they leave right
+REPEATED = {
+    'an empty list for a store with weights': with_store(lambda numbers, length: []),
+    'a list that is longer than its store': with_store(lambda numbers, length: numbers * (length // len(numbers) + 1)),
+}
 # of any line
 FORM = {
     'a field missing': lambda words: ' '.join(words[:-1]),
@@ -66,14 +88,21 @@ KIND = {
 
 def answers(kind, words):
     """The damages of an accepted and of a refused line: each field of the answer wrong."""
-    fields = range(len(words) - refusal_at(words))
-    if kind == 'r':
-        # the refusal, seven numbers, how many residues, the first and the last of them
-        fields = [*range(10), -1]
-    accepted = {f'field {at} of the answer': with_word(at, one_more) for at in fields}
-    refused = {f'field {at} of a refused answer': with_word(at, one_more) for at in fields if 0 <= at < 9}
+    fields = range(BEFORE_NUMBERS.get(kind, len(words) - refusal_at(words)))
+    # of the list that ends the answer, the first number and the last
+    ends = [len(fields), -1] if kind in BEFORE_NUMBERS else []
+    accepted = {f'field {at} of the answer': with_word(at, one_more) for at in [*fields, *ends]}
+    refused = {f'field {at} of a refused answer': with_word(at, one_more) for at in fields}
     refused['a refusal taken back'] = with_word(0, lambda word: '0')
-    return accepted, refused
+    return accepted, {**refused, **(REPEATED if kind == 'l' else {})}
+
+
+def is_fit(words):
+    """A list that is to be damaged has three numbers at least, so that its first and its last differ; and a store has weights."""
+    kind, refusal = words[0], refusal_at(words)
+    if words[refusal] == '0':
+        return kind not in BEFORE_NUMBERS or int(words[refusal + BEFORE_NUMBERS[kind] - 1]) >= 3
+    return kind != 'l' or int(words[4]) > 0
 
 
 def damaged(lines):
@@ -84,8 +113,7 @@ def damaged(lines):
         # the last line is kept for the line feed that it lacks
         for place, line in enumerate(lines[:-1]):
             words = line.split(' ')
-            # a row has three residues at least, so that the first and the last differ
-            if words[0] == kind and (kind != 'r' or int(words[3]) >= 3):
+            if words[0] == kind and is_fit(words):
                 places[words[refusal_at(words)] == '0'].append(place)
         accepted, refused = answers(kind, lines[places[True][0]].split(' '))
         for ways, is_accepted in ((accepted, True), (refused, False), (FORM, True), (KIND, True)):

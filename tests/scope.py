@@ -82,6 +82,9 @@ def check_figures():
     check_said(f'{pairs_in(figures.ROW_PAIRS)}: {sums}, {worst_in(row)}; residues {listed(row.residues)}.')
     for pairs, largest, place, residues in figures.WORST_PAIRS:
         check_said(f'{pairs_in(pairs)} has the residues {listed(residues)}, and its largest residue is {largest} at place {place}.')
+    layer = figures.LAYER
+    lent = f'the store {listed(layer.store)} with two columns on the frame {listed(layer.frame)}'
+    check_said(f'The layer by design {layer.design} of {lent} has the scores {listed(figures.LAYER_SCORES)}.')
 
 
 def listed(numbers):
@@ -97,9 +100,9 @@ def worst_in(row):
 
 
 def check_said(sentence):
-    """Of a row; the scope may break its line anywhere."""
+    """Of a row or a layer; the scope may break its line anywhere."""
     if sentence.replace('-', '−') not in ' '.join(text(SCOPE).split()):
-        report(SCOPE, f'does not say of a row: {sentence}')
+        report(SCOPE, f'does not say: {sentence}')
 
 
 def check_sample():

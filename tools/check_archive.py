@@ -4,16 +4,17 @@
 The chip has no multiplier, so no function that computes a design's product may hold a multiply instruction. Scoring a row, which
 the bench does and the chip does otherwise, multiplies: it forms the true product of each pair, and by designs 2 and 3 the residue as
 the product of what powers leave; the compiler makes two loops of each, for several pairs and for the rest, and the pairs that go one by
-one have a third. The writer of decimals divides by ten, which the compiler does by a multiply.
+one have a third. The writer of decimals divides by ten, which the compiler does by a multiply. Scoring a layer forms no true product, and no
+function of its file multiplies anything.
 
-No loop of a row jumps by a table, and no inner loop chooses a design or works out what a setting fixes: none compares with 2, 3, 4 or 5,
-calls, or shifts by a register, and one that takes several pairs at a time has no condition but its own end. The stages of a few pairs,
-one pair after the other, are a loop of the kernel's, which shifts by what the operands have.
+No loop of a row or of a layer jumps by a table, and no inner loop chooses a design or works out what a setting fixes: none compares with 2,
+3, 4 or 5, calls, or shifts by a register, and one that takes several pairs at a time has no condition but its own end. The stages of a few
+pairs of a row, one pair after the other, are a loop of the kernel's, which shifts by what the operands have.
 
 The archive must need nothing from outside (no undefined symbol) and hold no data that a program could write, so that it can go into ROM
-as it is. Constants are counted in each of its two files: the byte table's 512 bytes, the words of a transcript, the places that a row and a
-product by any design jump to, and the vectors that rows read, of which a linked program has those of its rows once. Of the stack below its
-pointer a function may use the red zone alone, as the header says.
+as it is. Constants are counted in each of its three files: the byte table's 512 bytes, the words of a transcript, the places that a row, a
+layer and a product by any design jump to, and the vectors that rows and layers read, of which a linked program has those of its own once. Of
+the stack below its pointer a function may use the red zone alone, as the header says.
 
 Usage: python3 tools/check_archive.py ARCHIVE     (tools/archive writes target/libhighvane.a)
 """
@@ -33,8 +34,10 @@ ALLOWED = {
     'highvane_score_row_twice_truncated': 3,
     'transcripts::writers::put_number': 1,
 }
-# the rows, in which loops are looked at; what makes a loop one of vectors, one that goes pair by pair, and the kernel's
+# the rows and the file of the layer, in which loops are looked at; what makes a loop one of vectors, one that goes pair by pair, and the
+# kernel's
 ROW = re.compile(r'highvane_score_row(?:_\w+)?$')
+LAYER_FILE = 'capi_layers.o'
 VECTOR = re.compile(r'p(?:add|sub|mull|mulh|muludq|madd)\w*')
 ONE_BY_ONE = 'inc'
 KERNEL = 'bsr'
@@ -48,7 +51,7 @@ GAP = re.compile(r'(?:data16\s|cs\s)*(?:nop|xchg\s+%ax,%ax)')
 # sections that a program writes, or that run before it; and constants, with how many bytes they may have
 DATA = re.compile(r'\.(data|bss|tdata|tbss|init_array|fini_array)\b')
 CONSTANTS = re.compile(r'\.rodata\b')
-CONSTANT_BYTES = {'capi.o': 512 + 24 + (20 + 16) + 372, 'capi_rows.o': 852}
+CONSTANT_BYTES = {'capi.o': 512 + 24 + (20 + 16) + 372, 'capi_rows.o': 852, 'capi_layers.o': 216}
 # an operand below the stack pointer, and how many bytes below it anything may lie
 BELOW_STACK = re.compile(r'-0x([0-9a-f]+)\(%rsp')
 RED_ZONE = 128
@@ -59,21 +62,26 @@ def output(*command):
 
 
 def functions(archive):
-    """The instructions of each function, each with its place and its operands, and how many bytes it has."""
-    code, name = {}, None
+    """The instructions of each function, each with its place and its operands, and how many bytes it has; by its file and its name, since
+    two files may have a function of one name."""
+    code, file, name = {}, None, None
     for line in output('objdump', '-d', '--no-show-raw-insn', archive).splitlines():
-        head = re.match(r'[0-9a-f]+ <(.+)>:$', line)
+        member, head = re.match(r'(\S+): +file format', line), re.match(r'[0-9a-f]+ <(.+)>:$', line)
+        if member:
+            file, name = member.group(1), None
         if head:
-            name = head.group(1)
+            name = file, head.group(1)
             code[name] = []
         instruction = re.match(r'\s+([0-9a-f]+):\s+(\S+)(.*)', line)
         if instruction and name:
             code[name].append((int(instruction[1], 16), instruction[2], instruction[3]))
     sizes = {}
     for line in output('nm', '--print-size', '--defined-only', archive).splitlines():
-        symbol = re.match(r'[0-9a-f]+ ([0-9a-f]+) [Tt] (.+)$', line)
+        member, symbol = re.match(r'(\S+):$', line), re.match(r'[0-9a-f]+ ([0-9a-f]+) [Tt] (.+)$', line)
+        if member:
+            file = member.group(1)
         if symbol:
-            sizes[symbol.group(2)] = int(symbol.group(1), 16)
+            sizes[file, symbol.group(2)] = int(symbol.group(1), 16)
     return code, sizes
 
 
@@ -146,7 +154,7 @@ def loops_of(code):
 
 
 def choices(loop, inner):
-    """What a loop of a row does beside its work on pairs: of any loop that it jumps by a table, and the rest of inner ones."""
+    """What a loop of a row or a layer does beside its work on pairs: of any loop that it jumps by a table, and the rest of inner ones."""
     names = [instruction for _, instruction, _ in loop]
     yield from (f'a jump by a table, {name}{operands}' for _, name, operands in loop if BY_TABLE.match(name + operands))
     if not inner or KERNEL in names:
@@ -169,23 +177,22 @@ def main():
     archive = sys.argv[1]
     code, sizes = functions(archive)
     wrong = []
-    if not any(name.startswith('highvane_') for name in code):
+    if not any(name.startswith('highvane_') for _, name in code):
         wrong.append('no exported function was found')
-    for name, instructions in code.items():
+    for (file, name), instructions in code.items():
         found = [i for _, i, _ in instructions if MULTIPLY.fullmatch(i)]
-        if len(found) > ALLOWED.get(name, 0):
+        if len(found) > (0 if file == LAYER_FILE else ALLOWED.get(name, 0)):
             wrong.append(f'{name} multiplies: {", ".join(found)}')
         below = max((int(depth, 16) for _, _, operands in instructions for depth in BELOW_STACK.findall(operands)), default=0)
         if below > RED_ZONE:
             wrong.append(f'{name} reaches {below} bytes below the stack pointer, more than {RED_ZONE}')
-    loops = 0
-    for name, instructions in code.items():
-        if ROW.search(name):
+    loops = {'rows': 0, 'layers': 0}
+    for (file, name), instructions in code.items():
+        if file == LAYER_FILE or ROW.search(name):
             for place, loop, inner in loops_of(instructions):
-                loops += inner
+                loops['layers' if file == LAYER_FILE else 'rows'] += inner
                 wrong += [f'{name}, the loop at {place:x}: {choice}' for choice in choices(loop, inner)]
-    if not loops:
-        wrong.append('no loop of a row was found')
+    wrong += [f'no loop of {of} was found' for of, count in loops.items() if not count]
     undefined = re.findall(r'^\s*U (.+)$', output('nm', '--undefined-only', archive), re.M)
     if undefined:
         wrong.append('undefined symbols: ' + ' '.join(undefined))
@@ -202,14 +209,14 @@ def main():
         found, most = constants.get(file, 0), CONSTANT_BYTES.get(file, 0)
         if not 0 < found <= most:
             wrong.append(f'{file}: {found} bytes of constants, and 1 to {most} are expected')
-    for name in sorted(sizes):
-        print(f'{sizes[name]:6} bytes, {len(code[name]):4} instructions  {name}')
+    for file, name in sorted(sizes, key=lambda each: each[::-1]):
+        print(f'{sizes[file, name]:6} bytes, {len(code[file, name]):4} instructions  {name}')
     for line in wrong:
         print('check_archive:', line, file=sys.stderr)
     if wrong:
         sys.exit(1)
     print(f'{len(code)} functions, {sum(constants.values())} bytes of constants: no multiply instruction in a design, no undefined symbol, no data')
-    print(f'{loops} inner loops of rows: none chooses a design, and none works out what a setting fixes')
+    print(f'{loops["rows"]} inner loops of rows, {loops["layers"]} of layers: none chooses a design, and none works out what a setting fixes')
 
 
 main()

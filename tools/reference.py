@@ -16,11 +16,14 @@ which they stand here:
     s DESIGN WIDTH SETTING A B REFUSAL PRODUCT
     r DESIGN SETTING WEIGHTS FRAME PLACES REFUSAL SCORE TRUE ERROR T N LARGEST PLACE RESIDUES
     t LENGTH COLUMNS ROW REFUSAL START COUNT
+    l DESIGN SETTING COLUMNS STORE FRAME PLACES REFUSAL SCORES
     h SCORE T SHIFT REFUSAL SCOREBITS TBITS
     f A B REFUSAL BITS
 
 All numbers are decimal, a negative one with a leading minus sign.  REFUSAL is 0 where the input is accepted; where it is refused,
-every field after REFUSAL is 0.  A list is its length followed by its elements, so an empty list is 0.
+every field after REFUSAL is 0.  A list is its length followed by its elements, so an empty list is 0.  A repeated list is a length
+followed by a list: so many elements, those of the list again and again from its first on.  The list is as short as it can be, so it
+is empty only where the length is 0.
 
 `u` (unsigned product) and `s` (signed product): DESIGN, WIDTH and SETTING fit 32 bits unsigned; A and B fit 64 bits, unsigned for
 `u` and signed for `s`, and so does PRODUCT.
@@ -33,6 +36,11 @@ that RESIDUES is empty, every place does.
 
 `t` (finding a row in a weight store): LENGTH is the store's, 0 to 8192, COLUMNS and ROW fit 64 bits unsigned.  The row is the COUNT
 elements of the store from place START on.
+
+`l` (scoring a layer, at width 16): DESIGN and SETTING fit 32 bits unsigned, COLUMNS 64 bits.  STORE and FRAME are repeated lists of
+signed 16-bit numbers, STORE of at most 12288.  PLACES is the length of the score slice that is lent, whose place j holds 1000000 + j
+before the call.  SCORES is the list of the scores, and its length the number of rows that is handed back; every later place keeps
+its contents, and where the layer is refused, so that SCORES is empty, every place does.
 
 `h` (handing out a score): SCORE fits 64 bits signed, T 64 bits unsigned, SHIFT 32 bits unsigned.  SCOREBITS and TBITS are binary64
 patterns as unsigned numbers.
@@ -47,12 +55,14 @@ import sys
 # Nothing is to be left beside the sources.
 sys.dont_write_bytecode = True
 
+import reference_checks.layers
 import reference_checks.products
 import reference_checks.records
 import reference_checks.rows
 import reference_checks.scaling
 import reference_checks.singles
 import reference_checks.stores
+import reference_vectors.layers
 import reference_vectors.products
 import reference_vectors.rows
 import reference_vectors.scaling
@@ -65,13 +75,14 @@ PARTS = (
     (reference_vectors.products, reference_checks.products),
     (reference_vectors.rows, reference_checks.rows),
     (reference_vectors.stores, reference_checks.stores),
+    (reference_vectors.layers, reference_checks.layers),
     (reference_vectors.scaling, reference_checks.scaling),
     (reference_vectors.singles, reference_checks.singles),
 )
 
 # What is printed is kept beside the library, so it must stay small; the program that runs it reads less than 2^21 bytes.
-MAX_BYTES = 1200000
-MAX_LINES = 21500
+MAX_BYTES = 1500000
+MAX_LINES = 23000
 
 
 def checked_text():

@@ -58,6 +58,37 @@ static void rows(void) {
     part("rows with slices of 2^32 numbers and more");
 }
 
+static void layers(void) {
+    static const int16_t three[] = {3, 3, 3};
+    const size_t many = four_billion + 3;
+    /* By the lower 32 bits of their lengths all of these would be accepted. */
+    const struct { size_t store_len, columns, frame_len, scores_len; uint32_t refusal; } refused[] = {
+        {3, many, 3, many, HIGHVANE_COLUMNS_OUT_OF_RANGE},
+        {many, 3, 3, many, HIGHVANE_UNEVEN_STORE},
+        {3, 3, many, many, HIGHVANE_LENGTHS_DIFFER},
+        {many, 1, 1, 3, HIGHVANE_SCORES_TOO_SHORT},
+        {four_billion, 1, 1, four_billion - 1, HIGHVANE_SCORES_TOO_SHORT},
+        {four_billion, 1, 1, 0, HIGHVANE_SCORES_TOO_SHORT},
+    };
+    int16_t *numbers = untouchable(many * sizeof *numbers);
+    int64_t *scores = untouchable(many * sizeof *scores);
+    for (size_t i = 0; i < COUNT(refused); i++) {
+        highvane_layer given = highvane_score_layer(HIGHVANE_MITCHELL, 0, numbers, refused[i].store_len, refused[i].columns, numbers,
+                                                    refused[i].frame_len, scores, refused[i].scores_len);
+        compare(given.refusal == refused[i].refusal && given.rows == 0,
+                "%zu weights of %zu columns, a frame of %zu, %zu places: refusal %" PRIu32 ", %" PRIu64 " rows, not refusal %" PRIu32,
+                refused[i].store_len, refused[i].columns, refused[i].frame_len, refused[i].scores_len, given.refusal, given.rows,
+                refused[i].refusal);
+    }
+
+    /* Room for 2^32 scores is room for three, as that for residues is. */
+    had(mprotect(scores, (size_t)sysconf(_SC_PAGESIZE), PROT_READ | PROT_WRITE) == 0 ? scores : NULL, "a page of scores");
+    highvane_layer given = highvane_score_layer(HIGHVANE_MITCHELL, 0, three, 3, 1, three, 1, scores, four_billion);
+    compare(given.refusal == 0 && given.rows == 3 && scores[0] == 8 && scores[2] == 8 && scores[3] == 0,
+            "2^32 places for 3 rows: refusal %" PRIu32 ", %" PRIu64 " rows", given.refusal, given.rows);
+    part("layers with slices of 2^32 numbers and more");
+}
+
 static void records(void) {
     static uint8_t out[HIGHVANE_TRANSCRIPT_MAX];
     static const char text[] = "0 no 19\ntotal 0 1\n";
@@ -72,5 +103,6 @@ static void records(void) {
 void check_lengths(void) {
     stores();
     rows();
+    layers();
     records();
 }

@@ -8,7 +8,7 @@
 #include <string.h>
 
 static int16_t numbers[HIGHVANE_PAIRS_MAX + 1];
-static int64_t residues[HIGHVANE_PAIRS_MAX + 1];
+static int64_t residues[HIGHVANE_PAIRS_MAX + 1], scores[2];
 static uint8_t input[HIGHVANE_INPUT_MAX + 1], out[HIGHVANE_TRANSCRIPT_MAX];
 
 static void named(uint32_t name, uint32_t given, const char *call) {
@@ -18,6 +18,11 @@ static void named(uint32_t name, uint32_t given, const char *call) {
 
 static uint32_t score(size_t weights_len, size_t frame_len, size_t residues_len) {
     return highvane_score_row(HIGHVANE_TRUNCATED, 15, numbers, weights_len, numbers, frame_len, residues, residues_len).refusal;
+}
+
+/* A layer of as many columns as the frame has numbers. */
+static uint32_t score_layer(size_t store_len, size_t columns, size_t scores_len) {
+    return highvane_score_layer(HIGHVANE_STAGED, 16, numbers, store_len, columns, numbers, columns, scores, scores_len).refusal;
 }
 
 /* The refusal that stands in the first line of a transcript, or 0. */
@@ -30,7 +35,7 @@ static uint32_t in_text(uint8_t kind, size_t input_len) {
 
 /* Each refusal has a text of its own, and so have no refusal and a number that is none. */
 static void texts(void) {
-    const uint32_t none = HIGHVANE_SECOND_OPERAND_OUTSIDE_WIDTH + 1;
+    const uint32_t none = HIGHVANE_SCORES_TOO_SHORT + 1;
     for (uint32_t refusal = HIGHVANE_ACCEPTED; refusal <= none; refusal++)
         for (uint32_t other = HIGHVANE_ACCEPTED; other < refusal; other++)
             compare(strcmp(highvane_refusal_text(refusal), highvane_refusal_text(other)) != 0,
@@ -64,6 +69,9 @@ void check_names(void) {
     NAMED(HIGHVANE_ACCEPTED, highvane_row_refusal(numbers, HIGHVANE_PAIRS_MAX, HIGHVANE_PAIRS_MAX, 0));
     NAMED(HIGHVANE_UNEVEN_STORE, highvane_row_refusal(numbers, 6, 4, 0));
     NAMED(HIGHVANE_NO_SUCH_ROW, highvane_row_refusal(numbers, 6, 3, 2));
+    NAMED(HIGHVANE_COLUMNS_OUT_OF_RANGE, score_layer(0, HIGHVANE_PAIRS_MAX + 1, 2));
+    NAMED(HIGHVANE_ACCEPTED, score_layer(HIGHVANE_PAIRS_MAX, HIGHVANE_PAIRS_MAX, 1));
+    NAMED(HIGHVANE_SCORES_TOO_SHORT, score_layer(6, 2, 2));
     NAMED(HIGHVANE_SHIFT_TOO_LARGE, highvane_scale(0, 0, HIGHVANE_SHIFT_MAX + 1).refusal);
     NAMED(HIGHVANE_ACCEPTED, highvane_scale(0, 0, HIGHVANE_SHIFT_MAX).refusal);
     NAMED(HIGHVANE_SIZE_TOO_LARGE, highvane_scale(INT64_MIN, 0, 0).refusal);

@@ -11,23 +11,6 @@ static int16_t weights[MOST], frame[MOST];
 static int64_t residues[MOST];
 static lent weights_memory, frame_memory, residues_memory;
 
-static size_t next_list(vector *v, int16_t *numbers) {
-    size_t length = next_number(v, MOST);
-    for (size_t i = 0; i < length; i++)
-        numbers[i] = (int16_t)next_signed(v, INT16_MIN, INT16_MAX);
-    return length;
-}
-
-/*
- * Each place holds a number of its own, which is its complement where the slice lies at an end: so a place that is written is seen,
- * even if once what is written is what was there.
- */
-static int64_t *lend_places(size_t places, enum place place) {
-    for (size_t i = 0; i < places; i++)
-        residues[i] = place == AT_START ? 1000000 + (int64_t)i : ~(1000000 + (int64_t)i);
-    return lend(&residues_memory, residues, places * sizeof *residues, place);
-}
-
 static void due_report(vector *v, const highvane_report *given) {
     due(v, "refusal", given->refusal);
     due_signed(v, "score", given->score);
@@ -54,7 +37,7 @@ static void by_itself(uint32_t design, uint32_t setting, size_t weights_len, siz
     if (design < 1 || design > COUNT(rows)) return;
     static int64_t residues_due[MOST];
     memcpy(residues_due, residues, sizeof residues);
-    int64_t *written = lend_places(places, place);
+    int64_t *written = lend_places(&residues_memory, residues, places, place);
     highvane_report given = rows[design - 1](setting, lend(&weights_memory, weights, weights_len * sizeof *weights, place), weights_len,
                                              lend(&frame_memory, frame, frame_len * sizeof *frame, place), frame_len, written, places);
     compare(same_report(&given, due), "design %" PRIu32 ", setting %" PRIu32 " by itself: refusal %" PRIu32 ", score %" PRId64
@@ -70,11 +53,11 @@ static void overlapping(uint32_t design, uint32_t setting, size_t length, size_t
     size_t pairs = length - apart;
     const int16_t *lent_weights = lend(&weights_memory, weights, length * sizeof *weights, place);
     const int16_t *copy = lend(&frame_memory, weights + apart, pairs * sizeof *weights, place);
-    int64_t *written = lend_places(pairs, place);
+    int64_t *written = lend_places(&residues_memory, residues, pairs, place);
     highvane_report of_copy = highvane_score_row(design, setting, lent_weights, pairs, copy, pairs, written, pairs);
     if (pairs > 0)
         memcpy(residues_of_copy, written, pairs * sizeof *written);
-    written = lend_places(pairs, place);
+    written = lend_places(&residues_memory, residues, pairs, place);
     highvane_report given = highvane_score_row(design, setting, lent_weights, pairs, lent_weights + apart, pairs, written, pairs);
     compare(same_report(&given, &of_copy), "design %" PRIu32 ", setting %" PRIu32 ": score %" PRId64 " where the frame begins %zu into %zu "
             "weights, and %" PRId64 " with a copy of it", design, setting, given.score, apart, length, of_copy.score);
@@ -89,11 +72,11 @@ void row_vector(vector *v) {
         residues_memory = lent_pages(sizeof residues);
     }
     uint32_t design = next_number(v, UINT32_MAX), setting = next_number(v, UINT32_MAX);
-    size_t weights_len = next_list(v, weights), frame_len = next_list(v, frame), places = next_number(v, MOST);
+    size_t weights_len = next_list(v, weights, MOST), frame_len = next_list(v, frame, MOST), places = next_number(v, MOST);
     vector answer = *v;
     for (enum place place = AT_START; place < PLACES; place++) {
         *v = answer;
-        int64_t *written = lend_places(places, place);
+        int64_t *written = lend_places(&residues_memory, residues, places, place);
         highvane_report given = highvane_score_row(
             design, setting, lend(&weights_memory, weights, weights_len * sizeof *weights, place), weights_len,
             lend(&frame_memory, frame, frame_len * sizeof *frame, place), frame_len, written, places);

@@ -70,6 +70,7 @@ static const struct { char letter; void (*check)(vector *v); const char *what; }
     {'s', signed_vector, "signed products"},
     {'r', row_vector, "rows, with every place of their slices and what lies around them"},
     {'t', store_vector, "rows of stores, with the whole store and what lies around it"},
+    {'l', layer_vector, "layers, with every place of their slices and what lies around them"},
     {'h', score_vector, "scores handed out"},
     {'f', single_vector, "single products"},
 };

@@ -31,6 +31,12 @@ void *lend(lent *memory, const void *content, size_t size, enum place place) {
     return memory->data;
 }
 
+int64_t *lend_places(lent *memory, int64_t *content, size_t places, enum place place) {
+    for (size_t i = 0; i < places; i++)
+        content[i] = place == AT_START ? 1000000 + (int64_t)i : ~(1000000 + (int64_t)i);
+    return lend(memory, content, places * sizeof *content, place);
+}
+
 void compare_lent(const lent *memory, const void *content, const char *what) {
     const unsigned char *end = memory->pages + memory->total, *byte = memory->pages, *held = content;
     size_t before = (size_t)(memory->data - memory->pages), at = 0;

@@ -25,6 +25,12 @@ lent lent_pages(size_t most);
 /* Lends a copy of `size` bytes at the start or at the end of the pages. Of 0 bytes, it lends NULL or the page that traps. */
 void *lend(lent *memory, const void *content, size_t size, enum place place);
 
+/*
+ * Lends so many places to be written. Each holds a number of its own, which is its complement where the slice lies at an end: so a place
+ * that is written is seen, even if once what is written is what was there. `content` then has them too.
+ */
+int64_t *lend_places(lent *memory, int64_t *content, size_t places, enum place place);
+
 /* Compares what is lent with `content`, and all around it with the pattern. */
 void compare_lent(const lent *memory, const void *content, const char *what);
 

@@ -36,6 +36,21 @@ int64_t next_signed(vector *v, int64_t least, int64_t largest) {
     return is_number ? number : 0;
 }
 
+size_t next_list(vector *v, int16_t *numbers, size_t most) {
+    size_t length = next_number(v, most);
+    for (size_t i = 0; i < length; i++)
+        numbers[i] = (int16_t)next_signed(v, INT16_MIN, INT16_MAX);
+    return length;
+}
+
+size_t next_repeated(vector *v, int16_t *numbers, size_t most) {
+    size_t length = next_number(v, most), count = next_list(v, numbers, most);
+    v->is_read &= count <= length && (count == 0) == (length == 0);
+    for (size_t i = count; i < length; i++)
+        numbers[i] = numbers[i - count];
+    return length;
+}
+
 static void due_text(vector *v, const char *name, const char *given) {
     char text[ROOM];
     field(v, text);

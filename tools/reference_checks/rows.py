@@ -73,7 +73,7 @@ def meets_bound(pairs):
 
 
 def check_report(design, setting, pairs):
-    """What holds of every report."""
+    """What holds of every report; it gives the report."""
     report = row_report(design, setting, pairs)
     what = f"row of design {design}, setting {setting}, {len(pairs)} pairs from {pairs[:7]}"
     expect(report.error == report.true_sum - report.score, f"{what}: error")
@@ -89,6 +89,7 @@ def check_report(design, setting, pairs):
     if design in DESIGNS_WITH_TIES:
         met = error_side == bound_side
         expect(met == meets_bound(pairs), f"{what}: bound met is {met}")
+    return report
 
 
 def check_worst(what, report):

@@ -1,5 +1,6 @@
 """What docs/SCOPE.md says of particular inputs: its tables and examples, number by number."""
 
+from .layers import LayerInput
 from .products import SIGNED, UNSIGNED, ProductInput
 from .rows import RowReport
 from .scaling import ScalingInput
@@ -90,6 +91,10 @@ WORST_PAIRS = (
     (((3, 3), (-5, 6), (5, 6), (3, 3)), 2, 1, (1, -2, 2, 1)),
     (((0, 7), (1, 4)), 0, 0, (0, 0)),
 )
+
+# The layer, and its scores.
+LAYER = LayerInput(1, 0, 2, (3, -5, 0, 7, 5, 6), (3, 6), 3)
+LAYER_SCORES = (-20, 40, 46)
 
 # The lengths at the limit of a row, and what each is refused with.
 ROW_LENGTHS = ((4096, 0), (4097, 6))

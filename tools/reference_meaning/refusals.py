@@ -25,6 +25,7 @@ UNKNOWN_KIND = 17
 CUT_SHORT = 18
 INPUT_TOO_LONG = 19
 SECOND_OPERAND_OUTSIDE_WIDTH = 20
+SCORES_TOO_SHORT = 21
 
 TEXTS = {
     ACCEPTED: "accepted",
@@ -48,6 +49,7 @@ TEXTS = {
     CUT_SHORT: "the record's body is cut short",
     INPUT_TOO_LONG: "the input is longer than 65,536 bytes",
     SECOND_OPERAND_OUTSIDE_WIDTH: "only the second operand is outside the width",
+    SCORES_TOO_SHORT: "there are fewer places for the scores than rows",
 }
 
 OF_PRODUCT = (
@@ -59,6 +61,14 @@ OF_PRODUCT = (
 )
 OF_ROW = (UNKNOWN_DESIGN, SETTING_OUT_OF_RANGE, LENGTHS_DIFFER, TOO_MANY_PAIRS, RESIDUES_TOO_SHORT)
 OF_STORE = (COLUMNS_OUT_OF_RANGE, UNEVEN_STORE, NO_SUCH_ROW)
+OF_LAYER = (
+    UNKNOWN_DESIGN,
+    SETTING_OUT_OF_RANGE,
+    COLUMNS_OUT_OF_RANGE,
+    UNEVEN_STORE,
+    LENGTHS_DIFFER,
+    SCORES_TOO_SHORT,
+)
 OF_SCALING = (SHIFT_TOO_LARGE, SIZE_TOO_LARGE)
 
 # A zero operand is accepted after two of the refusals were tried and before the other two are.

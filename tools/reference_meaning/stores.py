@@ -10,11 +10,19 @@ MAX_COLUMNS = 4096
 StoreInput = collections.namedtuple("StoreInput", "length columns row")
 
 
-def store_refusal(case):
-    if case.columns == 0 or case.columns > MAX_COLUMNS:
+def columns_refusal(length, columns):
+    """The refusal of a store by its columns, whichever row is asked for."""
+    if columns == 0 or columns > MAX_COLUMNS:
         return refusals.COLUMNS_OUT_OF_RANGE
-    if case.length % case.columns != 0:
+    if length % columns != 0:
         return refusals.UNEVEN_STORE
+    return refusals.ACCEPTED
+
+
+def store_refusal(case):
+    by_columns = columns_refusal(case.length, case.columns)
+    if by_columns:
+        return by_columns
     # The division leaves no rest.
     if case.row >= case.length // case.columns:
         return refusals.NO_SUCH_ROW

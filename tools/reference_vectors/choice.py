@@ -1,4 +1,5 @@
-"""What the choice of inputs shares: limits, operands at boundaries, rotations, random numbers, and how a line is put together."""
+"""What the choice of inputs shares: limits, operands at boundaries, repetitions, rotations, random numbers, and how a line is put
+together."""
 
 import collections
 import itertools
@@ -20,6 +21,11 @@ Chosen = collections.namedtuple("Chosen", "cases ordered")
 def without_repetition(cases):
     # A dictionary keeps the order of first arrival.
     return list(dict.fromkeys(cases))
+
+
+def repeated(numbers, length):
+    """So many numbers, those of a list again and again."""
+    return tuple(itertools.islice(itertools.cycle(numbers), length))
 
 
 def line_of(*fields):

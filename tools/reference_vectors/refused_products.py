@@ -11,6 +11,7 @@ from .wrong_numbers import (
     UNKNOWN_DESIGNS,
     UNKNOWN_WIDTHS,
     end_settings,
+    nonempty_sets,
     order_designs,
     order_settings,
     order_widths,
@@ -90,15 +91,9 @@ def order_pairs(kind, first_outside, second_outside):
     return pairs if first_outside or second_outside else pairs[:1]
 
 
-def refusal_sets():
-    """Every nonempty set of the refusals of a product."""
-    for size in range(1, len(refusals.OF_PRODUCT) + 1):
-        yield from itertools.combinations(refusals.OF_PRODUCT, size)
-
-
 def order_cases():
     """Pairs of the refusals that apply and an input to which they apply."""
-    for kind, applying in itertools.product(PRODUCT_KINDS, refusal_sets()):
+    for kind, applying in itertools.product(PRODUCT_KINDS, nonempty_sets(refusals.OF_PRODUCT)):
         pairs = order_pairs(
             kind,
             refusals.FIRST_OPERAND_OUTSIDE_WIDTH in applying,

@@ -6,7 +6,8 @@ from reference_meaning import figures, refusals
 from reference_meaning.designs import DESIGNS, NEAREST
 from reference_meaning.rows import MAX_PAIRS, ROW_WIDTH, RowInput
 
-from .wrong_numbers import UNKNOWN_DESIGNS, end_settings, order_designs, order_settings, unlisted_settings
+from .choice import repeated
+from .wrong_numbers import end_settings, nonempty_sets, order_designs, order_settings, refused_numbers
 
 # Lengths of weights and frame that differ.
 UNEQUAL_LENGTHS = (
@@ -20,7 +21,7 @@ SHORT_PLACES = ((1, 0), (2, 1), (2, 0), (3, 2), (3, 0), (7, 6), (7, 1), (7, 0))
 
 def plain_elements(length):
     """Small elements of both signs, a zero among them."""
-    return tuple(itertools.islice(itertools.cycle((3, -5, 0, 6, 7)), length))
+    return repeated((3, -5, 0, 6, 7), length)
 
 
 def bit_elements(rng, length):
@@ -33,17 +34,6 @@ def plain_rows(design, setting):
     weights, frame = zip(*figures.ROW_PAIRS)
     yield RowInput(design, setting, (), (), 0)
     yield RowInput(design, setting, weights, frame, len(weights))
-
-
-def unknown_design_rows():
-    for design, setting in itertools.product(UNKNOWN_DESIGNS, (0, 1)):
-        yield from plain_rows(design, setting)
-
-
-def unlisted_setting_rows():
-    for design in DESIGNS:
-        for setting in unlisted_settings(design, ROW_WIDTH):
-            yield from plain_rows(design, setting)
 
 
 def unequal_rows():
@@ -69,8 +59,8 @@ def longest_short_place_row(rng):
 
 
 def refused_rows(rng):
-    yield from unknown_design_rows()
-    yield from unlisted_setting_rows()
+    for design, setting in refused_numbers(ROW_WIDTH):
+        yield from plain_rows(design, setting)
     yield from unequal_rows()
     yield from short_place_rows()
     yield longest_short_place_row(rng)
@@ -81,8 +71,7 @@ def refusal_sets():
     one alone and with each of the others: such a row is long, so there are few of them."""
     long = refusals.TOO_MANY_PAIRS
     others = [number for number in refusals.OF_ROW if number != long]
-    for size in range(1, len(others) + 1):
-        yield from itertools.combinations(others, size)
+    yield from nonempty_sets(others)
     yield (long,)
     for number in others:
         yield number, long

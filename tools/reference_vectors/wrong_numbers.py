@@ -1,8 +1,11 @@
-"""Designs, widths and settings that are refused, and choices of them, right or wrong, for inputs to which several refusals apply.
+"""Designs, widths and settings that are refused; and for inputs to which several refusals apply, sets of refusals, and choices of
+designs, widths and settings, right or wrong.
 
 A choice that is wrong is wrong whatever the other numbers are, and one that is right is right whatever they are, so that the set
 of refusals that apply leaves no doubt.
 """
+
+import itertools
 
 from reference_meaning.designs import DESIGNS, WIDTHS, settings_accepted
 
@@ -28,6 +31,20 @@ def unlisted_settings(design, width):
     low, high = settings[0], settings[-1]
     near = [low - 1, *range(high + 1, width + 2)] if low > 0 else [high + 1]
     return near + [low + 2**8, low + 2**16, MAX_U32]
+
+
+def refused_numbers(width):
+    """Pairs of a design and a setting: of an unknown design and of one that does not take the setting."""
+    yield from itertools.product(UNKNOWN_DESIGNS, (0, 1))
+    for design in DESIGNS:
+        for setting in unlisted_settings(design, width):
+            yield design, setting
+
+
+def nonempty_sets(refusals):
+    """Every set of the refusals that has one at least."""
+    for size in range(1, len(refusals) + 1):
+        yield from itertools.combinations(refusals, size)
 
 
 def order_designs(wrong):

@@ -1,12 +1,13 @@
-"""Scores a frame of sound with one row of a weight store, and hands the score out."""
+"""Scores a frame of sound with one row of a weight store, hands the score out, and scores the frame with all rows at once."""
 from array import array
 
-from highvane import Design, Refused, row_of, scale, score_row
+from highvane import Design, Refused, row_of, scale, score_layer, score_row
 
 # Two rows of three columns, one after the other.
 store = array('h', [12, -7, 96, 3, -5, 0])
 frame = array('h', [3, 6, 7])
 residues = array('q', [0, 0, 0])
+scores = array('q', [0, 0])
 
 # A row is a part of the store, not a copy.
 weights = row_of(store, columns=3, row=1)
@@ -25,3 +26,7 @@ try:
     row_of(store, columns=3, row=2)
 except Refused as refused:
     print(f'find row 2: refusal {refused.number}, {refused.text}')
+
+# The score of each row alone, in one call.
+rows = score_layer(Design.MITCHELL, 0, store, 3, frame, scores)
+print(f'{rows} rows at once: scores {scores[0]}, {scores[1]}')

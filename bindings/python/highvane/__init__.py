@@ -10,6 +10,7 @@ input. It gives its result, or raises Refused with the first refusal that applie
     score_row_mitchell, score_row_nearest,    the same by one design
     score_row_staged, score_row_truncated,
     score_row_twice_truncated
+    score_layer                               the scores of all rows of a weight store against one frame
     scale                                     a score and T as floats, divided by a power of two
     single_product, single_product_of_bits    Mitchell's product of two binary32 numbers
     transcript                                what the bench prints for a run of records
@@ -22,15 +23,16 @@ input. It gives its result, or raises Refused with the first refusal that applie
 
 What is no input at all raises an error of Python's own, before anything is called: TypeError for a thing of a wrong type (a bool and a
 float are no whole numbers), OverflowError for a whole number that the parameter's C type cannot hold, ValueError for a buffer that cannot
-be lent. Weights, frames, stores, residues and records are lent as they lie, without a copy, from anything with the buffer protocol: an
-array, a memoryview, bytes, a numpy array. Such a buffer has one dimension and no gaps and begins where its items may; the residues can be
-written and overlap neither the weights nor the frame.
+be lent. Weights, frames, stores, residues, scores and records are lent as they lie, without a copy, from anything with the buffer
+protocol: an array, a memoryview, bytes, a numpy array. Such a buffer has one dimension and no gaps and begins where its items may; the
+residues and the scores can be written, and overlap nothing else that is lent with them.
 
 `tools/archive --shared` makes the shared object, libhighvane.so, for Linux on x86-64. The package takes it from the repository's folder
 target, or from the folder that the environment variable HIGHVANE_LIB names; a relative one starts from the current folder. The package and
 the shared object are of one version.
 """
 from .designs import Design
+from .layers import score_layer
 from .products import signed_product, table_product, unsigned_product
 from .records import INPUT_MAX, TRANSCRIPT_MAX, transcript
 from .refusals import Refusal, Refused
@@ -41,11 +43,11 @@ from .singles import single_product, single_product_of_bits
 from .stores import row_of, row_refusal
 
 # that of include/highvane.h
-__version__ = '2.4.0'
+__version__ = '2.5.0'
 
 __all__ = [
     'Design', 'INPUT_MAX', 'PAIRS_MAX', 'Refusal', 'Refused', 'Report', 'SHIFT_MAX', 'Scaled', 'TRANSCRIPT_MAX', 'row_of', 'row_refusal',
-    'scale', 'score_row', 'score_row_mitchell', 'score_row_nearest', 'score_row_staged', 'score_row_truncated',
+    'scale', 'score_layer', 'score_row', 'score_row_mitchell', 'score_row_nearest', 'score_row_staged', 'score_row_truncated',
     'score_row_twice_truncated', 'signed_product', 'single_product', 'single_product_of_bits', 'table_product', 'transcript',
     'unsigned_product',
 ]

@@ -37,6 +37,11 @@ class Report(ctypes.Structure):
                 ('largest_residue', c_uint64), ('largest_place', c_uint64), ('refusal', c_uint32)]
 
 
+class Layer(ctypes.Structure):
+    """The answer of highvane_score_layer."""
+    _fields_ = [('rows', c_uint64), ('refusal', c_uint32)]
+
+
 class Scaled(ctypes.Structure):
     """The answer of highvane_scale."""
     _fields_ = [('score', c_double), ('magnitude_sum', c_double), ('refusal', c_uint32)]
@@ -67,6 +72,8 @@ highvane_score_row_staged = _function('highvane_score_row_staged', Report, *_BY_
 highvane_score_row_truncated = _function('highvane_score_row_truncated', Report, *_BY_ITSELF)
 highvane_score_row_twice_truncated = _function('highvane_score_row_twice_truncated', Report, *_BY_ITSELF)
 highvane_row_refusal = _function('highvane_row_refusal', c_uint32, c_void_p, c_size_t, c_size_t, c_size_t)
+highvane_score_layer = _function('highvane_score_layer', Layer, c_uint32, c_uint32, c_void_p, c_size_t, c_size_t, c_void_p, c_size_t,
+                                 c_void_p, c_size_t)
 highvane_scale = _function('highvane_scale', Scaled, c_int64, c_uint64, c_uint32)
 highvane_single_product = _function('highvane_single_product', Single, c_uint32, c_uint32)
 highvane_table_product = _function('highvane_table_product', c_uint16, c_uint8, c_uint8)

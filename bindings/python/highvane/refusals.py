@@ -38,6 +38,7 @@ class Refusal(enum.IntEnum):
     CUT_SHORT = 18, "the record's body is cut short"
     INPUT_TOO_LONG = 19, 'the input is longer than 65,536 bytes'
     SECOND_OPERAND_OUTSIDE_WIDTH = 20, 'only the second operand is outside the width'
+    SCORES_TOO_SHORT = 21, 'there are fewer places for the scores than rows'
 
 
 class Refused(Exception):

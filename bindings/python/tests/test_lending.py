@@ -97,12 +97,20 @@ def score(weights, frame, residues):
     return highvane.score_row_mitchell(0, weights, frame, residues)
 
 
+def score_layer(store, frame, scores):
+    """With three columns, as many as FRAME has numbers."""
+    return highvane.score_layer(1, 0, store, 3, frame, scores)
+
+
 class Lending(unittest.TestCase):
     def test_every_kind_of_buffer(self):
         for weights in shorts():
             for residues in longs():
                 report = score(weights, FRAME, residues)
                 self.assertEqual((report.score, list(residues)), (-20, LONGS))
+            for scores in longs():
+                self.assertEqual((highvane.score_layer(1, 0, weights, 1, FRAME[:1], scores), list(scores)), (3, [8, -14, 0]))
+                self.assertEqual((score_layer(FRAME, weights, scores), list(scores)), (1, [-20, -14, 0]))
             self.assertEqual(highvane.row_of(weights, 1, 1).tobytes(), array('h', [-5]).tobytes())
 
     def test_nothing_is_copied(self):
@@ -122,17 +130,19 @@ class Lending(unittest.TestCase):
                         self.assertRaises(error, call, wrong)
 
     def test_wrong_weights_frames_and_stores(self):
-        residues = array('q', [7] * 8)
-        self.see(wrong_shorts(), lambda wrong: score(wrong, FRAME, residues), lambda wrong: score(FRAME, wrong, residues),
+        places = array('q', [7] * 8)
+        self.see(wrong_shorts(), lambda wrong: score(wrong, FRAME, places), lambda wrong: score(FRAME, wrong, places),
+                 lambda wrong: score_layer(wrong, FRAME, places), lambda wrong: score_layer(FRAME, wrong, places),
                  lambda wrong: highvane.row_of(wrong, 1, 0), lambda wrong: highvane.row_refusal(wrong, 1, 0))
-        self.assertEqual(residues.tolist(), [7] * 8)
+        self.assertEqual(places.tolist(), [7] * 8)
 
-    def test_wrong_residues(self):
+    def test_wrong_residues_and_scores(self):
         room = bytearray(64)
-        self.see(wrong_longs(room), lambda wrong: score(FRAME, FRAME, wrong))
+        self.see(wrong_longs(room), lambda wrong: score(FRAME, FRAME, wrong), lambda wrong: score_layer(FRAME, FRAME, wrong))
         self.assertEqual(room, bytes(64))
         # a format of 'l' alone does not say how long its items are
         self.assertEqual(score(FRAME, FRAME, view_of(room, b'<l', 8)).error, 6)
+        self.assertEqual(score_layer(FRAME, FRAME, view_of(room, b'<l', 8)), 1)
 
     def test_wrong_records(self):
         self.see(WRONG_RECORDS, highvane.transcript)
@@ -142,15 +152,18 @@ class Lending(unittest.TestCase):
         places = room[32:56].cast('q')
         for start in range(0, 90, 2):
             numbers = room[start:start + 6].cast('h')
-            if start + 6 <= 32 or start >= 56:
-                score(numbers, FRAME, places)
-                score(FRAME, numbers, places)
-            else:
-                self.assertRaisesRegex(ValueError, '^residues must not overlap weights$', score, numbers, FRAME, places)
-                self.assertRaisesRegex(ValueError, '^residues must not overlap frame$', score, FRAME, numbers, places)
+            for call, written, read in ((score, 'residues', 'weights'), (score_layer, 'scores', 'store')):
+                if start + 6 <= 32 or start >= 56:
+                    call(numbers, FRAME, places)
+                    call(FRAME, numbers, places)
+                else:
+                    self.assertRaisesRegex(ValueError, f'^{written} must not overlap {read}$', call, numbers, FRAME, places)
+                    self.assertRaisesRegex(ValueError, f'^{written} must not overlap frame$', call, FRAME, numbers, places)
         # an empty slice overlaps nothing, and what is only read may overlap
         score(room[40:40].cast('h'), array('h'), places)
         score(FRAME, FRAME, places)
+        self.assertEqual(score_layer(room[40:40].cast('h'), FRAME, places), 0)
+        self.assertEqual(score_layer(FRAME, FRAME, places), 1)
 
     def test_lengths_are_the_librarys_to_judge(self):
         long = array('h', [1] * (highvane.PAIRS_MAX + 1))
@@ -160,12 +173,19 @@ class Lending(unittest.TestCase):
                 score(weights, frame, residues)
             self.assertEqual((raised.exception.number, set(residues)), (refusal, {7}))
         self.assertEqual(score(array('h'), array('h'), array('q')).nonzero_pairs, 0)
+        for store, columns, places, refusal in [(FRAME, 0, 3, 12), (FRAME, 2, 3, 13), (FRAME, 1, 3, 5), (FRAME * 2, 3, 1, 21)]:
+            scores = array('q', [7] * places)
+            with self.assertRaises(highvane.Refused) as raised:
+                highvane.score_layer(1, 0, store, columns, FRAME, scores)
+            self.assertEqual((raised.exception.number, set(scores)), (refusal, {7}))
+        self.assertEqual(score_layer(array('h'), FRAME, array('q')), 0)
 
     def test_nothing_stays_lent(self):
         weights, residues, kept = array('h', SHORTS), array('q', [0] * 3), []
         for call, *arguments in [
             (score, weights, FRAME, residues), (score, weights, FRAME[:1], residues), (score, weights, None, residues),
             (score, weights, FRAME, weights), (score, residues, weights, residues), (highvane.row_of, weights, 2, 0),
+            (score_layer, weights, FRAME, residues), (score_layer, weights, FRAME[:1], residues), (score_layer, weights, None, residues),
         ]:
             try:
                 call(*arguments)
@@ -176,7 +196,7 @@ class Lending(unittest.TestCase):
             weights.pop()
             residues.append(0)
             residues.pop()
-        self.assertEqual(len(kept), 5)
+        self.assertEqual(len(kept), 7)
 
     def test_any_arguments(self):
         """Anything at all in any place gives a result, a refusal, or one of the three errors."""
@@ -187,8 +207,8 @@ class Lending(unittest.TestCase):
         calls = [(highvane.unsigned_product, 5), (highvane.signed_product, 5), (highvane.table_product, 2), (highvane.score_row, 5),
                  (highvane.score_row_mitchell, 4), (highvane.score_row_nearest, 4), (highvane.score_row_staged, 4),
                  (highvane.score_row_truncated, 4), (highvane.score_row_twice_truncated, 4), (highvane.row_of, 3),
-                 (highvane.row_refusal, 3), (highvane.scale, 3), (highvane.single_product, 2), (highvane.single_product_of_bits, 2),
-                 (highvane.transcript, 1)]
+                 (highvane.row_refusal, 3), (highvane.score_layer, 6), (highvane.scale, 3), (highvane.single_product, 2),
+                 (highvane.single_product_of_bits, 2), (highvane.transcript, 1)]
         chosen = random.Random(1)
         for _ in range(20000):
             call, count = chosen.choice(calls)

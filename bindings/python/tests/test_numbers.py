@@ -17,6 +17,10 @@ def by_itself(row):
     return lambda setting: row(setting, STORE, STORE, array('q', [0] * 4))
 
 
+def layered(design, setting, columns):
+    return highvane.score_layer(design, setting, STORE, columns, STORE[:2], array('q', [0] * 4))
+
+
 def found(call):
     return lambda columns, row: call(STORE, columns, row)
 
@@ -34,6 +38,7 @@ FUNCTIONS = [
     (by_itself(highvane.score_row_twice_truncated), {'setting': U32}, (15,)),
     (found(highvane.row_of), {'columns': U64, 'row': U64}, (2, 1)),
     (found(highvane.row_refusal), {'columns': U64, 'row': U64}, (2, 1)),
+    (layered, {'design': U32, 'setting': U32, 'columns': U64}, (1, 0, 2)),
     (highvane.scale, {'score': I64, 'magnitude_sum': U64, 'shift': U32}, (3, 3, 1)),
     (highvane.single_product_of_bits, {'a': U32, 'b': U32}, (0x3FC00000, 0x3FC00000)),
 ]

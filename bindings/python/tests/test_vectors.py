@@ -27,6 +27,11 @@ def taken(numbers, count):
     return list(itertools.islice(numbers, count))
 
 
+def repeated(numbers):
+    length, count = taken(numbers, 2)
+    return array('h', itertools.islice(itertools.cycle(taken(numbers, count)), length))
+
+
 def pattern(kind, number):
     return int.from_bytes(struct.pack(f'<{kind}', number), 'little')
 
@@ -67,6 +72,19 @@ def store(numbers):
     return [refusal, part[0], len(part)] if part else [refusal, 0, 0]
 
 
+def layer(numbers):
+    design, setting, columns = taken(numbers, 3)
+    store = repeated(numbers)
+    # lent read-only
+    frame = memoryview(repeated(numbers).tobytes()).cast('h')
+    before = array('q', range(1000000, 1000000 + next(numbers)))
+    scores = array('q', before)
+    refusal, rows = outcome(highvane.score_layer, design, setting, store, columns, frame, scores)
+    written = rows or 0
+    assert scores[written:] == before[written:], 'a later place of the scores is another'
+    return [refusal, written, *scores[:written]]
+
+
 def score(numbers):
     refusal, scaled = outcome(highvane.scale, *taken(numbers, 3))
     return [refusal, pattern('d', scaled.score), pattern('d', scaled.magnitude_sum)] if scaled else [refusal, 0, 0]
@@ -84,7 +102,7 @@ def single(numbers):
 KINDS = {
     'u': lambda numbers: product(highvane.unsigned_product, numbers),
     's': lambda numbers: product(highvane.signed_product, numbers),
-    'r': row, 't': store, 'h': score, 'f': single,
+    'r': row, 't': store, 'l': layer, 'h': score, 'f': single,
 }
 
 

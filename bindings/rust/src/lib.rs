@@ -11,6 +11,7 @@
 //! | [`score_row`] | the score of a row, its exact error, and the residue of each pair |
 //! | [`score_row_mitchell`], [`score_row_nearest`], [`score_row_staged`] | the same by one design |
 //! | [`score_row_truncated`], [`score_row_twice_truncated`] | the same by one design |
+//! | [`score_layer`] | the scores of all rows of a weight store against one frame |
 //! | [`scale`] | a score and T as binary64, divided by a power of two |
 //! | [`single_product`], [`single_product_of_bits`] | Mitchell's product of two binary32 numbers |
 //! | `transcript`, [`transcript_into`] | what the bench prints for a run of records |
@@ -39,6 +40,7 @@
 extern crate alloc;
 
 mod design;
+mod layers;
 mod products;
 pub mod raw;
 mod records;
@@ -49,6 +51,7 @@ mod singles;
 mod stores;
 
 pub use design::{Design, Width};
+pub use layers::score_layer;
 pub use products::{signed_product, table_product, unsigned_product};
 #[cfg(feature = "alloc")]
 pub use records::transcript;

@@ -65,6 +65,35 @@ pub struct ScoredRow {
     pub refusal: u32,
 }
 
+/// The answer of [`highvane_score_layer`].
+///
+/// ```
+/// let (no_weights, frame) = (core::ptr::null(), [3, 6]);
+/// // SAFETY: the frame's pointer goes with its length, and where a length is 0, its pointer is not followed.
+/// let answer = unsafe {
+///     highvane::raw::highvane_score_layer(
+///         1,
+///         0,
+///         no_weights,
+///         0,
+///         2,
+///         frame.as_ptr(),
+///         2,
+///         core::ptr::null_mut(),
+///         0,
+///     )
+/// };
+/// assert_eq!(answer, highvane::raw::Layer { rows: 0, refusal: 0 });
+/// ```
+#[repr(C)]
+#[derive(Clone, Copy, Debug, Default, PartialEq, Eq, Hash)]
+pub struct Layer {
+    /// How many rows the store has.
+    pub rows: u64,
+    /// The refusal's number, or 0.
+    pub refusal: u32,
+}
+
 /// What the rows by one design are, such as [`highvane_score_row_mitchell`]: the setting, the weights, the frame and the residues, each
 /// slice as its pointer and its length.
 ///
@@ -116,6 +145,7 @@ const _: () = {
     assert!(size_of::<Signed>() == 16 && offset_of!(Signed, refusal) == 8);
     assert!(size_of::<ScoredRow>() == 64 && offset_of!(ScoredRow, refusal) == 56);
     assert!(size_of::<Report>() == 56 && offset_of!(Report, magnitude_sum) == 24 && offset_of!(Report, largest_place) == 48);
+    assert!(size_of::<Layer>() == 16 && offset_of!(Layer, refusal) == 8);
     assert!(size_of::<Scaled>() == 24 && offset_of!(Scaled, refusal) == 16);
     assert!(size_of::<Single>() == 8 && offset_of!(Single, refusal) == 4);
     assert!(align_of::<ScoredRow>() == 8 && align_of::<Single>() == 4);
@@ -123,7 +153,7 @@ const _: () = {
 
 // SAFETY: these are the archive's functions with the types of its C interface. The safe ones take and give plain numbers, and
 // accept every number. The others read no more places than the length after the pointer says; those that score a row write at most
-// `residues_len` places, and `highvane_transcript` at most `TRANSCRIPT_MAX`.
+// `residues_len` places, `highvane_score_layer` at most `scores_len`, and `highvane_transcript` at most `TRANSCRIPT_MAX`.
 unsafe extern "C" {
     /// [`unsigned_product`](crate::unsigned_product), by numbers.
     ///
@@ -353,6 +383,43 @@ unsafe extern "C" {
     /// );
     /// ```
     pub fn highvane_row_refusal(store: *const i16, store_len: usize, columns: usize, row: usize) -> u32;
+
+    /// [`score_layer`](crate::score_layer), by numbers and pointers.
+    ///
+    /// # Safety
+    ///
+    /// Each pointer is aligned and points at as many numbers as the length after it says, or that length is 0. What is read may
+    /// overlap; the scores overlap nothing, and nobody else reads or writes them during the call.
+    ///
+    /// ```
+    /// let (store, frame, mut scores) = ([3, -5, 0, 7, 5, 6], [3, 6], [0; 3]);
+    /// // SAFETY: each pointer goes with the length of its own array.
+    /// let answer = unsafe {
+    ///     highvane::raw::highvane_score_layer(
+    ///         1,
+    ///         0,
+    ///         store.as_ptr(),
+    ///         6,
+    ///         2,
+    ///         frame.as_ptr(),
+    ///         2,
+    ///         scores.as_mut_ptr(),
+    ///         3,
+    ///     )
+    /// };
+    /// assert_eq!((answer.rows, answer.refusal, scores), (3, 0, [-20, 40, 46]));
+    /// ```
+    pub fn highvane_score_layer(
+        design: u32,
+        setting: u32,
+        store: *const i16,
+        store_len: usize,
+        columns: usize,
+        frame: *const i16,
+        frame_len: usize,
+        scores: *mut i64,
+        scores_len: usize,
+    ) -> Layer;
 
     /// [`scale`](crate::scale).
     ///

@@ -88,6 +88,7 @@ refusals! {
     CutShort = 18, "the record's body is cut short";
     InputTooLong = 19, "the input is longer than 65,536 bytes";
     SecondOperandOutsideWidth = 20, "only the second operand is outside the width";
+    ScoresTooShort = 21, "there are fewer places for the scores than rows";
 }
 
 impl Refusal {

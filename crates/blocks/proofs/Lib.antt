@@ -1,4 +1,5 @@
 pub mod LeftOfBlock
 pub mod Counts
+pub mod ListSums
 pub mod Adding
 pub mod Taking

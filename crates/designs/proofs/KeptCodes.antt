@@ -10,17 +10,13 @@ use mathlib.Core.Bool.{cond}
 use lib.Arith.{digits-div}
 use lib.Dec.{ltb}
 use lib.Pow.{pow-add, pow-lt, pow-pos}
-use Rattle.designs.specs.Codes.{code, scaledProduct}
+use Rattle.designs.specs.Codes.{code, keptCode, scaledProduct}
 use Rattle.designs.specs.Designs.{byMitchell, byTruncation, kept, log2, rest, total}
 use Rattle.designs.proofs.Carried.{carried, carried-scale}
 use Rattle.designs.proofs.Cases.{by-lt, either-lt}
 use Rattle.designs.proofs.Codes.{scaled, scaled-carried}
 use Rattle.designs.proofs.Parts.{up-to}
 use Rattle.designs.proofs.Truncated.{total-lt, truncation-at}
-
--- a code with t bits of its fraction
-unfoldable pub keptCode : ℕ → ℕ → ℕ → ℕ
-keptCode h t A = 2 ^ h * log2 A + kept t A * 2 ^ (h - t)
 
 -- where the leading power is at most 2^t, nothing is cut
 whole-code : (h t A : ℕ) → t ≤ h → log2 A ≤ t → keptCode h t A ≡ code h A

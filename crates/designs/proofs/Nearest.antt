@@ -29,6 +29,10 @@ near-is A h =
     (under A (2 ^ log2 A - rest A) (omega (arith, parts A h, rest-lt A))))
     (λ l. subst (λ (x : ℕ). Near x (2 ^ log2 A)) (sym (parts A h)) (over (2 ^ log2 A) (rest A) (omega arith)))
 
+pub near-most : {A P : ℕ} → Near A P → 3 * P ≤ 4 * A
+near-most (under A c h) = omega arith
+near-most (over P c h) = omega arith
+
 -- the design over any P and Q
 abbrev pub at : ℕ → ℕ → ℕ → ℕ → ℕ
 at A P B Q = A * Q + B * P - P * Q

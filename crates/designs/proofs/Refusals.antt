@@ -70,6 +70,14 @@ of-second (r ∷ xs) ys h {n} e z =
     by-bool (λ (b : Bool). n ≡ cond b (r .number) (first xs) → first ys ≡ cond b (r .number) (first (xs ++ ys))) (r .applies)
     (λ _ e. clash (r .number) (positive r xs h) (sym e ∙ z)) (λ _ e. of-second xs ys (later r xs h) e z) e
 
+-- where nothing of both parts applies, nothing of each does
+pub of-both : (xs ys : List Refusal) → Numbered xs → first (xs ++ ys) ≡ 0 → (first xs ≡ 0) × (first ys ≡ 0)
+unfolding first
+of-both [] ys h e = (refl, e)
+of-both (r ∷ xs) ys h e =
+    by-bool (λ (b : Bool). cond b (r .number) (first (xs ++ ys)) ≡ 0 → (cond b (r .number) (first xs) ≡ 0) × (first ys ≡ 0)) (r .applies)
+    (λ _ e. clash (r .number) (positive r xs h) e) (λ _ e. of-both xs ys (later r xs h) e) e
+
 -- a refusal hides what would be given otherwise
 pub refused-is : {X : Type 0} (n : ℕ) (o : Outcome X) → (n ≡ 0 → ⊥) → refused n ≡ otherwise n o
 refused-is zero o h = absurd (h refl)

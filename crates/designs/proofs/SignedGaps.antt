@@ -25,6 +25,10 @@ signed-mul false true a b c d = mul-gap a b d c
 signed-mul true false a b c d = mul-gap b a c d ∙ gap-eq _ _ _ _ (omega arith)
 signed-mul true true a b c d = mul-gap b a d c ∙ gap-eq _ _ _ _ (omega arith)
 
+pub signed-add : (s : Bool) (a b c d : ℕ) → signedGap s a b +ℤ signedGap s c d ≡ signedGap s (a + c) (b + d)
+signed-add false a b c d = add-gap a b c d
+signed-add true a b c d = add-gap b a d c
+
 -- a size with a sign, and two with the same
 pub sign-alone : (s : Bool) (n : ℕ) → withSign s n ≡ signedGap s n 0
 sign-alone false n = whole n
@@ -37,6 +41,10 @@ sign-less true n m = ap₂ _+ℤ_ (neg-whole n) (negℤ-negℤ (pos m) ∙ whole
 pub own-sign : (x : ℤ) → withSign (negative x) (natAbs x) ≡ x
 own-sign (pos n) = refl
 own-sign (negsuc n) = refl
+
+-- a number less one with its sign
+pub less-signed : (z : ℤ) (R : ℕ) → z -ℤ withSign (negative z) R ≡ signedGap (negative z) (natAbs z) R
+less-signed z R = ap (λ (y : ℤ). y -ℤ withSign (negative z) R) (sym (own-sign z)) ∙ sign-less (negative z) (natAbs z) R
 
 module _ (D : Design) (w x : ℤ) where
   abbrev A : ℕ
@@ -57,7 +65,4 @@ module _ (D : Design) (w x : ℤ) where
       → residue D w x ≡ (w -ℤ withSign (negative w) P) *ℤ (x -ℤ withSign (negative x) Q)
   residue-left P Q e =
       residue-signed ∙ signed-eq sign (A * B) (product D A B) (A * B + P * Q) (A * Q + P * B) (omega arith)
-      ∙ sym (ap₂ _*ℤ_ (left w P) (left x Q) ∙ signed-mul (negative w) (negative x) A P B Q)
-    where
-      left : (z : ℤ) (R : ℕ) → z -ℤ withSign (negative z) R ≡ signedGap (negative z) (natAbs z) R
-      left z R = ap (λ (y : ℤ). y -ℤ withSign (negative z) R) (sym (own-sign z)) ∙ sign-less (negative z) (natAbs z) R
+      ∙ sym (ap₂ _*ℤ_ (less-signed w P) (less-signed x Q) ∙ signed-mul (negative w) (negative x) A P B Q)

@@ -68,7 +68,7 @@ product-lt D u v A B ha hb =
 -- where one size is below 2^v by the law above, and where both are 2^v because the designs are all but exact there.
 
 module _ (v : ℕ) where
-  power-log2 : log2 (2 ^ v) ≡ v
+  pub power-log2 : log2 (2 ^ v) ≡ v
   power-log2 = log2-is (2 ^ v) v (omega arith) (pow-lt (omega arith))
 
   pub power-rest : rest (2 ^ v) ≡ 0

@@ -24,7 +24,11 @@ widens wider h = rw (toZ-ofZ h) (sfits-widen wider h)
 pub widened : {v : Width} (w : Width) {x : ℤ} → T (leb (hbits v) (hbits w)) → SFits v x → toZ w (ofZ w (toZ v (ofZ v x))) ≡ x
 widened w wider h = rw (toZ-ofZ h) (toZ-ofZ (sfits-widen wider h))
 
--- a number of a size below 2^31 fits
+-- a number of a size below 2^15, or 2^31, fits
+pub sized16 : (x : ℤ) → natAbs x < 2 ^ 15 → SFits w16 x
+sized16 (pos n) h = record { sfits = h }
+sized16 (negsuc n) h = record { sfits = omega arith }
+
 pub sized : (x : ℤ) → natAbs x < 2 ^ 31 → SFits w32 x
 sized (pos n) h = record { sfits = h }
 sized (negsuc n) h = record { sfits = omega arith }

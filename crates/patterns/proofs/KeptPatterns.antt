@@ -1,26 +1,31 @@
 -- Design 4 by patterns. Masked, a pattern is the code with t kept bits, above the sign; and the sum of two, with its carry, is a
 -- logarithm of the product (`designs` `KeptCodes.kept-scaled`). Assumes nothing.
-use mathlib.Core.Path.{_≡_, ap, ap₂, _∙_, subst}
-use Prim.Native.Nat.{ℕ, _+_, _-_, _*_, _/_, _%_, _^_, _≤_, _<_}
-use native.Mathlib.Nat.{add-mul-div-right, mul-comm, mul-le-mul-right}
+use mathlib.Core.Path.{_≡_, sym, ap, ap₂, _∙_, subst}
+use Prim.Native.Nat.{ℕ, max, _+_, _-_, _*_, _/_, _%_, _^_, _≤_, _<_}
+use native.Mathlib.Nat.{add-mul-div-right, max-eq-right, min-eq-left, mul-comm, mul-le-mul-right}
 use native.Mathlib.Omega.{arith}
 use mathlib.Core.Bool.{Bool, true, false, cond}
 use borrow.Author.Tests.{le-ltb, lt-ltb}
-use lib.Bits.{bitAnd, and-high}
+use lib.Bits.{bitAnd, and-high, and-zero-l}
 use lib.Dec.{ltb}
 use lib.Ieee.{unlike}
 use lib.IntN.{ℤ, natAbs, _*ℤ_}
 use lib.Pow.{pow-mono, pow-pos, shr-mod}
-use Rattle.designs.specs.Codes.{code}
+use Rattle.designs.specs.Codes.{code, keptCode}
 use Rattle.designs.specs.Designs.{formula, kept, log2, rest, truncated}
 use Rattle.designs.specs.Signs.{negative, signedProduct}
 use Rattle.designs.proofs.Cases.{by-lt, either-lt}
 use Rattle.designs.proofs.Codes.{code-lt, fraction, log2-le-bits}
-use Rattle.designs.proofs.KeptCodes.{kept-scaled, keptCode}
+use Rattle.designs.proofs.KeptCodes.{kept-scaled}
 use Rattle.designs.proofs.Parts.{up-to}
 use Rattle.designs.proofs.Truncated.{kept-lt, shift-down}
-use Rattle.patterns.specs.Patterns.{Less, logPattern, patternOf}
+use Rattle.patterns.specs.Patterns.{carriedOf, clamped, Less, logPattern, patternOf, raisedBy, raisedOf}
+use Rattle.patterns.proofs.Moved.{raised-at, raised-none}
 use Rattle.patterns.proofs.Pair.{less, log-sum, pattern-at}
+
+-- a setting that a row takes is no other when it is clamped
+pub clamped-is : (t : ℕ) → 1 ≤ t → t ≤ 15 → clamped t ≡ t
+clamped-is t h g = ap (max 1) (min-eq-left g) ∙ max-eq-right h
 
 -- the fraction of a code, cut at the last kept bit
 cut-fraction : (t A : ℕ) → t ≤ 23 → A ≤ 2 ^ 15 → fraction 23 A / 2 ^ (23 - t) ≡ kept t A
@@ -35,9 +40,10 @@ module _ (t : ℕ) (ht : t ≤ 15) where
   scale : 2 ^ 23 ≡ P * 2 ^ t
   scale = up-to 23 t (omega arith)
 
-  masked : (s : Bool) (A : ℕ) → A ≤ 2 ^ 15 → bitAnd (logPattern s (code 23 A)) (2 ^ 32 - P) ≡ logPattern s (keptCode 23 t A)
+  -- a pattern with q more in its exponent field
+  masked : (s : Bool) (q A : ℕ) → q ≤ 16 → A ≤ 2 ^ 15 → bitAnd (logPattern s (code 23 A + q * 2 ^ 23)) (2 ^ 32 - P) ≡ logPattern s (keptCode 23 t A + q * 2 ^ 23)
   unfolding code keptCode
-  masked s A l =
+  masked s q A hq l =
       ap (λ (j : ℕ). bitAnd p (2 ^ j - P)) places ∙ and-high p (9 + t) (23 - t)
       ∙ ap (λ (y : ℕ). y * P) (shr-mod (9 + t) (23 - t) small ∙ quotient) ∙ back s
     where
@@ -45,36 +51,46 @@ module _ (t : ℕ) (ht : t ≤ 15) where
       f = fraction 23 A
 
       D : Bool → ℕ
-      D s = cond s 256 0 + 127 + log2 A
+      D s = cond s 256 0 + 127 + log2 A + q
 
       p : ℕ
-      p = logPattern s (2 ^ 23 * log2 A + f)
+      p = logPattern s (2 ^ 23 * log2 A + f + q * 2 ^ 23)
 
       places : 32 ≡ 9 + t + (23 - t)
       places = omega arith
 
-      bound : (s : Bool) → logPattern s (code 23 A) < 2 ^ 32
+      bound : (s : Bool) → logPattern s (code 23 A + q * 2 ^ 23) < 2 ^ 32
       bound true = omega (arith, code-lt 23 A (omega arith))
       bound false = omega (arith, code-lt 23 A (omega arith))
 
       small : p < 2 ^ (9 + t + (23 - t))
       small = subst (λ (j : ℕ). p < 2 ^ j) places (bound s)
 
-      digits : (s : Bool) → logPattern s (2 ^ 23 * log2 A + f) ≡ f + D s * 2 ^ t * P
-      digits true = omega (arith, scale, ap (λ (x : ℕ). log2 A * x) scale)
-      digits false = omega (arith, scale, ap (λ (x : ℕ). log2 A * x) scale)
+      digits : (s : Bool) → logPattern s (2 ^ 23 * log2 A + f + q * 2 ^ 23) ≡ f + D s * 2 ^ t * P
+      digits true = omega (arith, scale, ap (λ (x : ℕ). (log2 A + q) * x) scale)
+      digits false = omega (arith, scale, ap (λ (x : ℕ). (log2 A + q) * x) scale)
 
       quotient : p / P ≡ kept t A + D s * 2 ^ t
       quotient =
           ap (λ (y : ℕ). y / P) (digits s) ∙ add-mul-div-right f (D s * 2 ^ t) (pow-pos (23 - t))
           ∙ ap (λ (y : ℕ). y + D s * 2 ^ t) (cut-fraction t A (omega arith) l)
 
-      back : (s : Bool) → (kept t A + D s * 2 ^ t) * P ≡ logPattern s (2 ^ 23 * log2 A + kept t A * P)
-      back true = omega (arith, scale, ap (λ (x : ℕ). log2 A * x) scale)
-      back false = omega (arith, scale, ap (λ (x : ℕ). log2 A * x) scale)
+      back : (s : Bool) → (kept t A + D s * 2 ^ t) * P ≡ logPattern s (2 ^ 23 * log2 A + kept t A * P + q * 2 ^ 23)
+      back true = omega (arith, scale, ap (λ (x : ℕ). (log2 A + q) * x) scale)
+      back false = omega (arith, scale, ap (λ (x : ℕ). (log2 A + q) * x) scale)
 
   pub cut-at : (z : ℤ) → 0 < natAbs z → natAbs z ≤ 2 ^ 15 → bitAnd (patternOf z) (2 ^ 32 - P) ≡ logPattern (negative z) (keptCode 23 t (natAbs z))
-  cut-at z p h = ap (λ (q : ℕ). bitAnd q (2 ^ 32 - P)) (pattern-at z p) ∙ masked (negative z) (natAbs z) h
+  cut-at z p h =
+      ap (λ (q : ℕ). bitAnd q (2 ^ 32 - P)) (pattern-at z p ∙ none (code 23 (natAbs z))) ∙ masked (negative z) 0 (natAbs z) (omega arith) h ∙ sym (none (keptCode 23 t (natAbs z)))
+    where
+      none : (c : ℕ) → logPattern (negative z) c ≡ logPattern (negative z) (c + 0 * 2 ^ 23)
+      none c = ap (logPattern (negative z)) (omega arith)
+
+  pub cut-raised : (z : ℤ) → natAbs z ≤ 2 ^ 15 → bitAnd (raisedOf z) (2 ^ 32 - P) ≡ raisedBy (keptCode 23 t) z
+  cut-raised z l =
+      either-lt 0 (natAbs z)
+      (λ p. ap (λ (q : ℕ). bitAnd q (2 ^ 32 - P)) (raised-at (code 23) z p) ∙ masked (negative z) 16 (natAbs z) (omega arith) l ∙ sym (raised-at (keptCode 23 t) z p))
+      (λ p. rw (raised-none (code 23) z (omega arith), raised-none (keptCode 23 t) z (omega arith)) (and-zero-l (2 ^ 32 - P)))
 
   pub code-small : (A : ℕ) → A ≤ 2 ^ 15 → keptCode 23 t A < 24 * 2 ^ 23
   unfolding keptCode
@@ -84,7 +100,7 @@ module _ (t : ℕ) (ht : t ≤ 15) where
 
   -- the carry, tested on the pattern below its sign
   carried : (s : Bool) (c : ℕ) → c < 48 * 2 ^ 23
-      → (logPattern s c + cond (ltb (logPattern s c % 2 ^ 31) (127 * 2 ^ 23 + t * 2 ^ 23)) 0 P) % 2 ^ 32 ≡ logPattern s (c + cond (ltb c (t * 2 ^ 23)) 0 P)
+      → carriedOf t (logPattern s c) ≡ logPattern s (c + cond (ltb c (t * 2 ^ 23)) 0 P)
   carried s c l =
       let P-le = pow-mono {i = 23 - t} {j = 23} (omega arith) in
       rw (lower s)
@@ -116,7 +132,7 @@ module _ (t : ℕ) (ht : t ≤ 15) where
 
     pub truncated-less : (some : 0 < t) (sum r : ℕ) → sum < 2 ^ 32
         → (0 < A → 0 < B → (sum + 127 * 2 ^ 23) % 2 ^ 32 ≡ (bitAnd (patternOf w) (2 ^ 32 - P) + bitAnd (patternOf x) (2 ^ 32 - P)) % 2 ^ 32)
-        → r ≡ (sum + cond (ltb (sum % 2 ^ 31) (127 * 2 ^ 23 + t * 2 ^ 23)) 0 P) % 2 ^ 32
+        → r ≡ carriedOf t sum
         → Less (w *ℤ x) r (signedProduct (truncated t) w x)
     unfolding formula
     truncated-less some sum r l es er =
@@ -125,7 +141,7 @@ module _ (t : ℕ) (ht : t ≤ 15) where
         record {
           c = c + cond (ltb c (t * 2 ^ 23)) 0 P;
           is =
-              er ∙ ap (λ (p : ℕ). (p + cond (ltb (p % 2 ^ 31) (127 * 2 ^ 23 + t * 2 ^ 23)) 0 P) % 2 ^ 32) (both pw px)
+              er ∙ ap (carriedOf t) (both pw px)
               ∙ carried (unlike (negative w) (negative x)) c sum-small;
           small =
               by-lt (λ (y : ℕ). c + y < 2 ^ 30) c (t * 2 ^ 23) (λ g. omega (arith, sum-small))

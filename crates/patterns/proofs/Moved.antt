@@ -14,7 +14,7 @@ use mir.Facts.{toZ-ofZ}
 use Rattle.designs.specs.Codes.{code}
 use Rattle.designs.specs.Signs.{negative, withSign}
 use Rattle.designs.proofs.Codes.{code-lt, code-scaled, scaled-higher}
-use Rattle.patterns.specs.Patterns.{logPattern, patternOf}
+use Rattle.patterns.specs.Patterns.{logPattern, patternOf, raisedBy, raisedOf}
 use Rattle.patterns.proofs.Pair.{pattern-at}
 use Rattle.patterns.proofs.Values.{narrow-bits}
 
@@ -48,9 +48,31 @@ moved-fits (pos zero) l = tt
 moved-fits (pos (suc n)) l = some (pos (suc n)) (omega arith) l .0
 moved-fits (negsuc n) l = some (negsuc n) (omega arith) l .0
 
+none : toBits binary32 (ofInt binary64 (pos 0)) ≡ 0
+unfolding toBits ofInt
+none = refl
+
+pub moved-bits : (x : ℤ) → natAbs x ≤ 2 ^ 15 → toBits binary32 (ofInt binary64 (moved x)) ≡ raisedOf x
+unfolding raisedBy
+moved-bits (pos zero) l = none
+moved-bits (pos (suc n)) l = some (pos (suc n)) (omega arith) l .1
+moved-bits (negsuc n) l = some (negsuc n) (omega arith) l .1
+
+pub raised-at : (h : ℕ → ℕ) (x : ℤ) → 0 < natAbs x → raisedBy h x ≡ logPattern (negative x) (h (natAbs x) + 16 * 2 ^ 23)
+unfolding raisedBy
+raised-at h (pos zero) p = absurd (omega arith)
+raised-at h (pos (suc n)) p = refl
+raised-at h (negsuc n) p = refl
+
+pub raised-none : (h : ℕ → ℕ) (x : ℤ) → natAbs x ≡ 0 → raisedBy h x ≡ 0
+unfolding raisedBy
+raised-none h (pos zero) e = refl
+raised-none h (pos (suc n)) e = absurd (omega arith)
+raised-none h (negsuc n) e = absurd (omega arith)
+
 -- the pattern of x, read from that of x × 2^16
-pub moved-down : (x : ℤ) (r : ℕ) → 0 < natAbs x → natAbs x ≤ 2 ^ 15 → r < 2 ^ 32 → (r + 16 * 2 ^ 23) % 2 ^ 32 ≡ toBits binary32 (ofInt binary64 (moved x)) → r ≡ patternOf x
-moved-down x r h l small e = down (negative x) (code 23 (natAbs x)) (e ∙ some x h l .1) ∙ sym (pattern-at x h)
+pub moved-down : (x : ℤ) (r : ℕ) → 0 < natAbs x → r < 2 ^ 32 → (r + 16 * 2 ^ 23) % 2 ^ 32 ≡ raisedOf x → r ≡ patternOf x
+moved-down x r h small e = down (negative x) (code 23 (natAbs x)) (e ∙ raised-at (code 23) x h) ∙ sym (pattern-at x h)
   where
     down : (s : Bool) (c : ℕ) → (r + 16 * 2 ^ 23) % 2 ^ 32 ≡ logPattern s (c + 16 * 2 ^ 23) → r ≡ logPattern s c
     down true c e = omega arith

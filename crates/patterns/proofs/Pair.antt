@@ -14,7 +14,7 @@ use Rattle.designs.specs.Codes.{code, scaledProduct}
 use Rattle.designs.specs.Designs.{Design, KeepsBit, formula, product, unlessZero}
 use Rattle.designs.specs.Signs.{negative, residue, signedProduct, withSign}
 use Rattle.designs.proofs.Distance.{within-dist}
-use Rattle.designs.proofs.Sizes.{sign-dist, size-true, true-is}
+use Rattle.designs.proofs.Sizes.{sign-dist, size-sign, size-true, true-is}
 use Rattle.designs.proofs.Widths.{size-lt}
 use Rattle.designs.proofs.Zeros.{product-is, zero-product}
 use Rattle.patterns.specs.Patterns.{Less, logPattern, patternOf, Stands}
@@ -45,6 +45,10 @@ module _ (D : Design) (k : KeepsBit D) (w x : ℤ) (hw : natAbs w ≤ 2 ^ 15) (h
 
   pub product-size : product D A B < 2 ^ 31
   product-size = size-lt D k 15 A B hw hx
+
+  pub product-fits : SFits w32 (signedProduct D w x)
+  unfolding signedProduct
+  product-fits = sized (signedProduct D w x) (omega (arith, product-size, size-sign sign (product D A B)))
 
   pub residue-size : natAbs (residue D w x) < 2 ^ 31
   unfolding residue signedProduct

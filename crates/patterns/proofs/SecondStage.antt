@@ -3,7 +3,7 @@
 -- number has a leading power below the number's own, and of two numbers of 2^15 nothing is left. Assumes nothing.
 use mathlib.Core.Path.{_≡_, refl, sym, ap, ap₂, _∙_}
 use Prim.Native.Nat.{ℕ, zero, suc, _+_, _-_, _*_, _/_, _%_, _^_, _≤_, _<_}
-use native.Mathlib.Nat.{le-antisymm, mul-le-mul-left, sub-add-cancel}
+use native.Mathlib.Nat.{le-antisymm, mul-le-mul-left, mul-pos, sub-add-cancel}
 use native.Mathlib.Omega.{arith}
 use mathlib.Core.Bool.{Bool, true, false, false≢true}
 use borrow.Author.Tests.{eq-eqb, ne-eqb, lt-ltb}
@@ -11,11 +11,12 @@ use lib.Arith.{digits-mod}
 use lib.Bits.{bitAnd, and-mask, and-zero-l}
 use lib.IntN.{pos}
 use lib.Pow.{pow-mono, pow-pos}
+use Rattle.designs.specs.Codes.{keptCode}
 use Rattle.designs.specs.Designs.{formula, kept, leftOver, log2, product, rest, total, totalBelow, truncated, twiceTruncated}
 use Rattle.designs.proofs.Carried.{carried, carried-lt}
 use Rattle.designs.proofs.Cases.{either-lt}
 use Rattle.designs.proofs.Codes.{log2-le-bits}
-use Rattle.designs.proofs.KeptCodes.{kept-raised, keptCode}
+use Rattle.designs.proofs.KeptCodes.{kept-raised}
 use Rattle.designs.proofs.Parts.{log2-below, log2-le, parts, rest-lt, rest-zero, up-to}
 use Rattle.designs.proofs.Truncated.{kept-none, total-lt, truncation-at}
 use Rattle.designs.proofs.TwiceTruncated.{twice-is}
@@ -71,6 +72,11 @@ pub left-high : (A below : ℕ) → 0 < A → A < 2 ^ 32 → below ≡ 2 ^ log2 
 unfolding leftOver
 left-high A below p l e = ap (bitAnd (2 ^ 32 - 1 - A)) e ∙ turned-bits A p l
 
+pub left-none : (low : Bool) (A : ℕ) → A ≡ 0 → leftOver low A ≡ 0
+unfolding leftOver log2
+left-none true A e = ap rest e ∙ rest-zero
+left-none false A e = rw e
+
 pub left-lt : (low : Bool) (A : ℕ) → leftOver low A < 2 ^ log2 A
 unfolding leftOver
 left-lt true A = rest-lt A
@@ -96,22 +102,24 @@ module _ (t A B : ℕ) where
   unfolding isLow
   low-some p = rw (ne-eqb (A * B) 0 (λ e. omega arith)) refl
 
+pub low-both : (t A B : ℕ) → 0 < A → 0 < B → isLow t A B ≡ totalBelow t A B
+low-both t A B ha hb = low-some t A B (mul-pos ha hb)
+
 pub low-none : (t A B : ℕ) → isLow t A B ≡ false → (0 < A) × (0 < B)
 low-none t zero B e = absurd (false≢true (sym e ∙ low-zero t 0 B (omega arith)))
 low-none t (suc A) zero e = absurd (false≢true (sym e ∙ low-zero t (suc A) 0 (omega arith)))
 low-none t (suc A) (suc B) e = (omega arith, omega arith)
 
--- the product as the sum of two, also where a number is 0
-pub by-stages : (t A B : ℕ)
-    → product (twiceTruncated t) A B ≡ product (truncated t) A B + product (truncated 2) (leftOver (isLow t A B) A) (leftOver (isLow t A B) B)
-unfolding leftOver
-by-stages t zero B =
+-- the product as the sum of two, also where a number is 0, of which nothing is left in either case
+pub by-stages : (t A B : ℕ) (low : Bool) → (0 < A → 0 < B → low ≡ totalBelow t A B)
+    → product (twiceTruncated t) A B ≡ product (truncated t) A B + product (truncated 2) (leftOver low A) (leftOver low B)
+by-stages t zero B low is =
     sym (zero-left (twiceTruncated t) 0 B refl)
-    ∙ omega (arith, zero-left (truncated t) 0 B refl, zero-left (truncated 2) (leftOver (isLow t 0 B) 0) (leftOver (isLow t 0 B) B) (rw (low-zero t 0 B (omega arith)) rest-zero))
-by-stages t (suc A) zero =
+    ∙ omega (arith, zero-left (truncated t) 0 B refl, zero-left (truncated 2) (leftOver low 0) (leftOver low B) (left-none low 0 refl))
+by-stages t (suc A) zero low is =
     sym (zero-right (twiceTruncated t) (suc A) 0 refl)
-    ∙ omega (arith, zero-right (truncated t) (suc A) 0 refl, zero-right (truncated 2) (leftOver (isLow t (suc A) 0) (suc A)) (leftOver (isLow t (suc A) 0) 0) (rw (low-zero t (suc A) 0 (omega arith)) rest-zero))
-by-stages t (suc A) (suc B) = rw (low-some t (suc A) (suc B) (omega arith)) (twice-is t (suc A) (suc B) (omega arith) (omega arith))
+    ∙ omega (arith, zero-right (truncated t) (suc A) 0 refl, zero-right (truncated 2) (leftOver low (suc A)) (leftOver low 0) (left-none low 0 refl))
+by-stages t (suc A) (suc B) low is = rw (is (omega arith) (omega arith)) (twice-is t (suc A) (suc B) (omega arith) (omega arith))
 
 -- what is left of numbers of at most 2^15 has few bits
 log-le : (A : ℕ) → A ≤ 2 ^ 15 → log2 A ≤ 15
@@ -124,28 +132,27 @@ full : (A : ℕ) → A ≤ 2 ^ 15 → 15 ≤ log2 A → A ≡ 2 ^ 15
 full zero h g = absurd (omega (arith, log2-le-bits 0 0 (omega arith)))
 full (suc n) h g = le-antisymm h (omega (arith, pow-mono g, log2-le (suc n) (omega arith)))
 
-module _ (t A B : ℕ) (some : 0 < t) (ha : A ≤ 2 ^ 15) (hb : B ≤ 2 ^ 15) where
+module _ (t A B : ℕ) (low : Bool) (is : 0 < A → 0 < B → low ≡ totalBelow t A B) (some : 0 < t) (ha : A ≤ 2 ^ 15) (hb : B ≤ 2 ^ 15) where
   abbrev x : ℕ
-  x = leftOver (isLow t A B) A
+  x = leftOver low A
 
   abbrev y : ℕ
-  y = leftOver (isLow t A B) B
+  y = leftOver low B
 
   -- of two numbers of 2^15 nothing is left
   none : (A : ℕ) → A ≡ 2 ^ 15 → leftOver true A ≡ 0
   unfolding leftOver
   none A e = rw e (power-rest 15)
 
-  ends-low : A ≡ 2 ^ 15 → B ≡ 2 ^ 15 → isLow t A B ≡ true
-  unfolding isLow
-  ends-low ea eb = rw (ea, eb, power-kept 15 t) (lt-ltb 1 (2 ^ t) (pow-mono some))
+  ends-low : A ≡ 2 ^ 15 → B ≡ 2 ^ 15 → low ≡ true
+  ends-low ea eb = is (omega (arith, ea)) (omega (arith, eb)) ∙ (rw (ea, eb, power-kept 15 t) (lt-ltb 1 (2 ^ t) (pow-mono some)))
 
   pub left-logs : log2 x + log2 y ≤ 27
   left-logs =
       either-lt (log2 A) 15
-      (λ l. omega (arith, left-log (isLow t A B) A, left-log (isLow t A B) B, log-le B hb))
+      (λ l. omega (arith, left-log low A, left-log low B, log-le B hb))
       (λ l. either-lt (log2 B) 15
-      (λ m. omega (arith, left-log (isLow t A B) A, left-log (isLow t A B) B, log-le A ha))
+      (λ m. omega (arith, left-log low A, left-log low B, log-le A ha))
       (λ m. both-full (full A ha l) (full B hb m)))
     where
       both-full : A ≡ 2 ^ 15 → B ≡ 2 ^ 15 → log2 x + log2 y ≤ 27
@@ -177,7 +184,7 @@ module _ (A B : ℕ) (ha : A < 2 ^ 15) (hb : B < 2 ^ 15) (few : log2 A + log2 B 
   c-small = omega (arith, code-small 2 (omega arith) A (omega arith), code-small 2 (omega arith) B (omega arith))
 
   pub raised : (sum p : ℕ) → sum < 2 ^ 32
-      → (sum + 127 * 2 ^ 23) % 2 ^ 32 ≡ (bitAnd (patternOf (pos A)) (2 ^ 32 - 2 ^ 21) + bitAnd (patternOf (pos B)) (2 ^ 32 - 2 ^ 21)) % 2 ^ 32
+      → (0 < A → 0 < B → (sum + 127 * 2 ^ 23) % 2 ^ 32 ≡ (bitAnd (patternOf (pos A)) (2 ^ 32 - 2 ^ 21) + bitAnd (patternOf (pos B)) (2 ^ 32 - 2 ^ 21)) % 2 ^ 32)
       → p ≡ (sum + (2 * 2 ^ 23 + 2 ^ 21)) % 2 ^ 32
       → Raised A B (maskedBy (pos A) (maskedBy (pos B) p))
   unfolding formula
@@ -194,7 +201,7 @@ module _ (A B : ℕ) (ha : A < 2 ^ 15) (hb : B < 2 ^ 15) (few : log2 A + log2 B 
           sum-at : sum ≡ logPattern false c
           sum-at =
               log-sum false false (keptCode 23 2 A) (keptCode 23 2 B) sum l (omega (arith, c-small))
-              (es ∙ ap₂ (λ (q r : ℕ). (q + r) % 2 ^ 32) (cut-at 2 (omega arith) (pos A) pa (omega arith)) (cut-at 2 (omega arith) (pos B) pb (omega arith)))
+              (es pa pb ∙ ap₂ (λ (q r : ℕ). (q + r) % 2 ^ 32) (cut-at 2 (omega arith) (pos A) pa (omega arith)) (cut-at 2 (omega arith) (pos B) pb (omega arith)))
 
           at : p ≡ logPattern false (c + 2 ^ 21 + 2 * 2 ^ 23)
           at = omega (arith, sum-at, c-small, ep)

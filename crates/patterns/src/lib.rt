@@ -7,6 +7,7 @@ ghost use Rattle.patterns.specs.Patterns.{clamped};
 
 mod logs;
 mod powers;
+mod raising;
 mod sizes;
 mod stages;
 mod truncation;
@@ -24,7 +25,17 @@ use crate::twice::first_stage;
 use crate::twice::is_low;
 use crate::twice::left_over;
 use crate::twice::second_stage;
+pub use powers::offset_of;
+pub use powers::rest_of;
+pub use raising::carried;
+pub use raising::kept;
+pub use raising::lead;
+pub use raising::near;
+pub use raising::raised;
 pub use stages::pairs_left;
+pub use twice::fraction_of;
+pub use twice::left_of;
+pub use twice::room_of;
 
 // The residue of design 1.
 pub fn mitchell_residue(w: i16, x: i16) -> i32

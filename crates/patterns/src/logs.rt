@@ -3,6 +3,7 @@ ghost use mathlib.Core.Path.{_≡_};
 ghost use Prim.Native.Nat.{ℕ, _+_, _%_, _*_, _^_, _≤_, _<_};
 ghost use lib.IntN.{ℤ, pos, natAbs, _-ℤ_};
 ghost use Rattle.patterns.specs.Patterns.{Less, maskedBy, patternOf, Stands};
+use crate::raising::raised;
 
 // The pattern of 1, whose logarithm is 0.
 pub(crate) const ONE: u32 = 127 << 23;
@@ -18,13 +19,11 @@ pub(crate) fn pattern_of(x: i32) -> u32
 // 16 in the exponent field.
 const HIGHER: u32 = 16 << 23;
 
-// The pattern of a number that is not 0; of 0, any. It is made of the pattern of x × 2^16, with 16 taken off the exponent: of four x at a time
-// the compiler makes these products by a move to the upper halves of empty registers, where widening each x would begin with a register
-// that still holds something, and so wait for the pairs before.
+// The pattern of a number that is not 0; of 0, any.
 pub(crate) fn pattern(x: i16) -> u32
     ensures { λ r. ⌜ (0 < natAbs x → r ≡ patternOf x) ⌝ }
 {
-    std::num::wrapping_sub_u32(f32::to_bits((x as i32 * 65536) as f64 as f32), HIGHER)
+    std::num::wrapping_sub_u32(raised(x), HIGHER)
 }
 
 // The same of a size.

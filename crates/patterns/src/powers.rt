@@ -2,6 +2,7 @@
 ghost use mathlib.Core.Path.{_≡_};
 ghost use Prim.Native.Nat.{_^_, _≤_};
 ghost use lib.IntN.{natAbs};
+ghost use Rattle.designs.specs.Signs.{restℤ};
 ghost use Rattle.patterns.specs.Patterns.{fieldPower, lessPower};
 use crate::logs::pattern_of;
 use crate::logs::size_pattern;
@@ -12,7 +13,7 @@ use crate::logs::whole_size;
 pub(crate) const POWERS: u32 = 511 << 23;
 
 // Half of the lowest exponent's place.
-const HALF: u32 = 1 << 22;
+pub(crate) const HALF: u32 = 1 << 22;
 
 // x less the power of two in the exponent field of its pattern, with its sign. What is added to the pattern before carries into the field.
 pub(crate) fn less_power(x: i32, carry: u32) -> i32
@@ -27,6 +28,20 @@ pub(crate) fn offset(x: i16) -> i32
     ensures { λ r. ⌜ r ≡ lessPower (2 ^ 22) x ⌝ }
 {
     less_power(x as i32, HALF)
+}
+
+// The same in 16 bits.
+pub fn offset_of(x: i16) -> i16
+    ensures { λ r. ⌜ r ≡ lessPower (2 ^ 22) x ⌝ }
+{
+    offset(x) as i16
+}
+
+// What one stage of design 3 leaves of a number, with its sign.
+pub fn rest_of(x: i16) -> i16
+    ensures { λ r. ⌜ r ≡ restℤ x ⌝ }
+{
+    less_power(x as i32, 0) as i16
 }
 
 // The leading power of a size; 0 for 0.

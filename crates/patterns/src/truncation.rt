@@ -4,7 +4,7 @@ ghost use mathlib.Core.Bool.{cond};
 ghost use Prim.Native.Nat.{_+_, _-_, _*_, _%_, _^_, _≤_};
 ghost use lib.Bits.{bitAnd};
 ghost use lib.Dec.{ltb};
-ghost use Rattle.patterns.specs.Patterns.{clamped};
+ghost use Rattle.patterns.specs.Patterns.{carriedOf, clamped};
 use crate::logs::ONE;
 
 // The place above the fraction field.
@@ -42,11 +42,11 @@ pub(crate) fn cut(t: u32, p: u32) -> u32
     p & (u32::MAX - last_kept(t) + 1)
 }
 
-// A sum of two such patterns, with 1 at the last kept bit where the number that it stands for is at least 2^t. Below 2^t nothing was cut,
-// so the number is whole, and the carry would add less than 1 to it, which the design rounds down.
+// A sum of two such patterns with its carry. Below 2^t nothing was cut, so the number is whole, and the carry would add less than 1 to it, which
+// the design rounds down.
 pub(crate) fn with_carry(t: u32, sum: u32) -> u32
     requires { ⌜ t ≤ 15 ⌝ }
-    ensures { λ r. ⌜ r ≡ (sum + cond (ltb (sum % 2 ^ 31) (127 * 2 ^ 23 + t * 2 ^ 23)) 0 (2 ^ (23 - t))) % 2 ^ 32 ⌝ }
+    ensures { λ r. ⌜ r ≡ carriedOf t sum ⌝ }
 {
     std::num::wrapping_add_u32(sum, carry(t, sum))
 }

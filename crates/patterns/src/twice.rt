@@ -2,8 +2,9 @@
 ghost use mathlib.Core.Path.{_≡_};
 ghost use mathlib.Core.Bool.{false};
 ghost use Prim.Native.Nat.{_+_, _-_, _*_, _^_, _≤_, _<_};
+ghost use lib.IntN.{pos, natAbs};
 ghost use Rattle.designs.specs.Designs.{kept, leftOver, log2, product, truncated};
-ghost use Rattle.patterns.specs.Patterns.{isLow, Sizes};
+ghost use Rattle.patterns.specs.Patterns.{clamped, isLow, Sizes};
 use crate::logs::log_sum;
 use crate::logs::size_pattern;
 use crate::logs::unless_zero;
@@ -11,6 +12,7 @@ use crate::logs::whole_size;
 use crate::powers::POWERS;
 use crate::powers::lead;
 use crate::truncation::HIDDEN;
+use crate::truncation::clamp;
 use crate::truncation::cut;
 use crate::truncation::last_kept;
 use crate::truncation::with_carry;
@@ -51,6 +53,20 @@ fn fraction(t: u32, x: u32) -> u32
     cut(t, p) - (p & POWERS)
 }
 
+// The same of a signed number.
+pub fn fraction_of(kept_bits: u32, x: i16) -> u32
+    ensures { λ r. ⌜ r ≡ kept (clamped «kept_bits») (natAbs x) * 2 ^ (23 - clamped «kept_bits») ⌝ }
+{
+    fraction(clamp(kept_bits), pairs::size(x))
+}
+
+// What the kept bits of another fraction have to stay below for the first stage to be low: 1 less those of x and the carry.
+pub fn room_of(kept_bits: u32, x: i16) -> u32
+    ensures { λ r. ⌜ r ≡ 2 ^ 23 - (kept (clamped «kept_bits») (natAbs x) + 1) * 2 ^ (23 - clamped «kept_bits») ⌝ }
+{
+    HIDDEN - (fraction_of(kept_bits, x) + last_kept(clamp(kept_bits)))
+}
+
 // What the first stage leaves of x: the bits below its leading one, or what these bits lack of all ones.
 pub(crate) fn left_over(low: bool, x: u32) -> u32
     requires { ⌜ (x ≤ 2 ^ 15) × (low ≡ false → 0 < x) ⌝ }
@@ -61,6 +77,17 @@ pub(crate) fn left_over(low: bool, x: u32) -> u32
         return x & below;
     }
     !x & below
+}
+
+// The same of a signed number; of 0, nothing.
+pub fn left_of(low: bool, x: i16) -> i16
+    ensures { λ r. ⌜ r ≡ pos (leftOver low (natAbs x)) ⌝ }
+{
+    let n = pairs::size(x);
+    if n == 0 {
+        return 0;
+    }
+    left_over(low, n) as i16
 }
 
 // The second stage, design 4 with two kept bits.

@@ -45,6 +45,9 @@ pub const UNEVEN_STORE: u32 = 13;
 
 pub const NO_SUCH_ROW: u32 = 14;
 
+// Layers.
+pub const SCORES_TOO_SHORT: u32 = 21;
+
 // Scores that are handed out.
 pub const SHIFT_TOO_LARGE: u32 = 15;
 

@@ -2,8 +2,7 @@
 -- accepted one no test applied, so that its kept bits are ones that the loops serve, and what they complete makes the definition's report,
 -- of which the third demand holds. Assumes nothing.
 use mathlib.Core.Path.{_≡_, refl, sym, ap, _∙_, subst}
-use Prim.Native.Nat.{ℕ, zero, suc, max, _≤_}
-use native.Mathlib.Nat.{max-eq-right, min-eq-left}
+use Prim.Native.Nat.{ℕ, zero, suc, _≤_}
 use native.Mathlib.Omega.{arith}
 use mathlib.Core.List.{List, _++_}
 use borrow.Author.Tests.{eqb-true, lt-leb, ltb-false, not-false}
@@ -22,6 +21,7 @@ use Rattle.designs.proofs.Demand.{demand}
 use Rattle.designs.proofs.Refusals.{none, refuses, gives}
 use Rattle.designs.proofs.Settings.{by-design, keeps}
 use Rattle.patterns.specs.Patterns.{clamped}
+use Rattle.patterns.proofs.KeptPatterns.{clamped-is}
 use Rattle.rows.specs.Answers.{reportOf, Ready, Scoring, Small}
 use Rattle.rows.specs.Totals.{Complete, Going, inBlocks, Ongoing, reportBy, Roomy}
 use Rattle.rows.specs.declared.Scored.the-variants as S
@@ -30,10 +30,6 @@ use Rattle.rows.specs.declared.sums.Sums.{Sums}
 use Rattle.rows.proofs.SmallSums.{small}
 use Rattle.rows.proofs.Turn.{roomy}
 use Rattle.rows.proofs.Whole.{residues-length, whole-report, whole-residues}
-
--- a setting that rows take is no other when it is clamped
-clamped-is : (t : ℕ) → 1 ≤ t → t ≤ 15 → clamped t ≡ t
-clamped-is t h g = ap (max 1) (min-eq-left g) ∙ max-eq-right h
 
 module _ (design setting : ℕ) (ws fs before : List ℤ) where
   abbrev D : Design

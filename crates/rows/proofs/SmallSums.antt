@@ -13,7 +13,7 @@ use Rattle.rows.specs.Answers.{Fits16, Small}
 use Rattle.blocks.specs.Residues.{ofPair}
 use Rattle.blocks.proofs.Counts.{count-size, total-size}
 use Rattle.rows.proofs.Pair.{Bounds, bounds, most}
-use Rattle.rows.proofs.Whole.{wholeℤ, wholeℕ}
+use Rattle.blocks.proofs.ListSums.{wholeℕ, wholeℤ}
 
 module _ (D : Design) (keeps : KeepsBit D) (ws fs : List ℤ) (same : length ws ≡ length fs) (few : length ws ≤ 4096)
     (fits : (k : ℕ) → k < length ws → Fits16 ws fs k) where

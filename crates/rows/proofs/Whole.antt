@@ -4,37 +4,24 @@
 use mathlib.Core.Path.{_≡_, refl, sym, ap, ap₂, _∙_}
 use Prim.Native.Nat.{ℕ, zero, suc, _+_, _-_, _≤_, _<_}
 use native.Mathlib.Nat.{le-refl}
-use native.Mathlib.Numerals.{add-one}
 use native.Mathlib.Omega.{arith}
 use mathlib.Core.List.{List, [], _∷_, _++_}
 use lib.IntN.{ℤ, pos, negℤ, natAbs, _+ℤ_, _-ℤ_, _*ℤ_, +ℤ-assoc, +ℤ-idl, +ℤ-invr, negℤ-+ℤ, negℤ-negℤ}
-use lib.ListN.{length, take, drop, getD, length-append, length-drop, List·getD-append}
+use lib.ListN.{length, drop, getD, length-append, length-drop, List·getD-append}
 use lib.Seq.{ext-getD, getD-append-add, getD-drop, take-all}
 use Rattle.designs.specs.Designs.{Design}
-use Rattle.designs.specs.Rows.{firstOfSize, largestSize, nonzero, pairwise, report, residues, sumℤ, sum}
+use Rattle.designs.specs.Rows.{firstOfSize, largestSize, nonzero, pairwise, report, residues, sumℤ}
 use Rattle.designs.specs.Signs.{residue, signedProduct}
 use Rattle.designs.proofs.Cases.{either-lt}
-use Rattle.designs.proofs.Prefixes.{pairwise-length, sumℤ-next, sum-next}
+use Rattle.designs.proofs.Prefixes.{pairwise-length}
 use Rattle.designs.specs.Worst.{Worst}
 use Rattle.designs.proofs.RowSums.{sum-minus}
 use Rattle.designs.proofs.Worst.{only, worst-as, worst-of}
-use Rattle.blocks.specs.Counts.{total, count}
+use Rattle.blocks.specs.Counts.{count}
 use Rattle.blocks.specs.Residues.{ofPair}
+use Rattle.blocks.proofs.ListSums.{wholeℕ, wholeℤ}
 use Rattle.rows.specs.Totals.{Reached, reportBy}
 use Rattle.rows.specs.declared.sums.Sums.{Sums}
-
--- totals and sums
-total-is : (q : ℤ → ℤ → ℤ) (ws fs : List ℤ) (n : ℕ) → n ≤ length ws → n ≤ length fs → total (ofPair q ws fs) n ≡ sumℤ (pairwise q (take n ws) (take n fs))
-unfolding total pairwise sumℤ
-total-is q ws fs zero h g = refl
-total-is q ws fs (suc n) h g =
-    ap (λ (y : ℤ). y +ℤ ofPair q ws fs n) (total-is q ws fs n (omega arith) (omega arith)) ∙ (rw (add-one n) at (sym (sumℤ-next ws fs n h g q)))
-
-count-is : (q : ℤ → ℤ → ℕ) (ws fs : List ℤ) (n : ℕ) → n ≤ length ws → n ≤ length fs → count (ofPair q ws fs) n ≡ sum (pairwise q (take n ws) (take n fs))
-unfolding count pairwise sum
-count-is q ws fs zero h g = refl
-count-is q ws fs (suc n) h g =
-    ap (λ (y : ℕ). y + ofPair q ws fs n) (count-is q ws fs n (omega arith) (omega arith)) ∙ (rw (add-one n) at (sym (sum-next ws fs n h g q)))
 
 -- what a difference leaves
 pub left : (x y : ℤ) → x -ℤ (x -ℤ y) ≡ y
@@ -51,17 +38,6 @@ pair-at q d (w ∷ ws) (x ∷ fs) zero h g = refl
 pair-at q d (w ∷ ws) (x ∷ fs) (suc k) h g = pair-at q d ws fs k (omega arith) (omega arith)
 
 module _ (ws fs : List ℤ) (same : length ws ≡ length fs) where
-  -- sums over the whole lists
-  pub wholeℤ : (q : ℤ → ℤ → ℤ) → total (ofPair q ws fs) (length ws) ≡ sumℤ (pairwise q ws fs)
-  wholeℤ q =
-      total-is q ws fs (length ws) (le-refl _) (omega arith)
-      ∙ ap₂ (λ (us vs : List ℤ). sumℤ (pairwise q us vs)) (take-all (length ws) ws (le-refl _)) (take-all (length ws) fs (omega arith))
-
-  pub wholeℕ : (q : ℤ → ℤ → ℕ) → count (ofPair q ws fs) (length ws) ≡ sum (pairwise q ws fs)
-  wholeℕ q =
-      count-is q ws fs (length ws) (le-refl _) (omega arith)
-      ∙ ap₂ (λ (us vs : List ℤ). sum (pairwise q us vs)) (take-all (length ws) ws (le-refl _)) (take-all (length ws) fs (omega arith))
-
   pub residues-length : (D : Design) → length (residues D ws fs) ≡ length ws
   unfolding residues
   residues-length D =

@@ -2,7 +2,7 @@
 -- next row right after the one before it, all of one length, the columns. Definitions only.
 use Prim.Native.Nat.{ℕ, _*_, _/_, _%_}
 use mathlib.Core.Bool.{not, _||_, cond}
-use mathlib.Core.List.{List, [], _∷_}
+use mathlib.Core.List.{List, [], _∷_, _++_}
 use lib.Dec.{eqb, ltb}
 use Rattle.designs.specs.Outcomes.{Refusal, _when_, first}
 
@@ -16,9 +16,12 @@ unevenStore length columns = 13 when not (eqb (length % columns) 0)
 abbrev pub noSuchRow : ℕ → ℕ → ℕ → Refusal
 noSuchRow length columns row = 14 when not (ltb row (length / columns))
 
--- In order.
+-- In order: those of the store's shape, whatever is asked of it, and that of the row.
+abbrev pub shapeRefusals : ℕ → ℕ → List Refusal
+shapeRefusals length columns = columnsOutOfRange columns ∷ unevenStore length columns ∷ []
+
 abbrev pub storeRefusals : ℕ → ℕ → ℕ → List Refusal
-storeRefusals length columns row = columnsOutOfRange columns ∷ unevenStore length columns ∷ noSuchRow length columns row ∷ []
+storeRefusals length columns row = shapeRefusals length columns ++ (noSuchRow length columns row ∷ [])
 
 -- The number of the refusal, or 0.
 unfoldable pub storeRefusal : ℕ → ℕ → ℕ → ℕ

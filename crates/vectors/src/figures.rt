@@ -18,8 +18,8 @@ use crate::tally::Tally;
 // In their order: the table's rows; that design 3 at width 8 takes 8 stages, and neither 0 nor 9; that design 5 there keeps 7 bits, and
 // neither 0 nor 8, and that 6 is no design; that width 8 takes −128, and which of two operands it does not take, 128 signed or 256
 // unsigned, also beside a wrong setting; the limits of width 12, and the numbers beside it that are no widths; the starred row, a row with two
-// largest residues and one whose residues are 0; that 4,096 pairs are scored, and 4,097 not; that −20 over 2^3 is handed out as −2.5, and T 39
-// then as 4.875; the singles.
+// largest residues and one whose residues are 0; the layer; that 4,096 pairs are scored, and 4,097 not; that −20 over 2^3 is handed out as
+// −2.5, and T 39 then as 4.875; the singles.
 pub fn run() -> Tally {
     lines::count(
         b"q 1 8 0 255 0 65024 1
@@ -69,6 +69,7 @@ u 1 13 0 5 6 2 0
 r 1 0 3 3 -5 0 3 3 6 7 3 0 -20 -21 -1 39 2 2 1 3 1 -2 0
 r 1 0 4 3 -5 5 3 4 3 6 6 3 4 0 16 18 2 78 4 2 1 4 1 -2 2 1
 r 1 0 2 0 1 2 7 4 2 0 4 4 0 4 1 0 0 2 0 0
+l 1 0 2 6 6 3 -5 0 7 5 6 2 2 3 6 3 0 3 -20 40 46
 n 4096 0 4096 4096 0 4096 4096 0 0 4096
 n 4097 6 0 0 0 0 0 0 0 0
 h -20 39 3 0 13836183955189006336 4617174780473245696

@@ -6,6 +6,7 @@ use crate::fields::Fields;
 use crate::fields::none;
 use crate::fields::read;
 use crate::figures;
+use crate::layer_vectors;
 use crate::product_vectors;
 use crate::row_vectors;
 use crate::score_vectors;
@@ -14,6 +15,7 @@ use crate::store_vectors;
 
 pub fn is_right(line: &[u8], kind: u8) -> bool {
     match kind {
+        b'l' => layer_vectors::is_layer(line),
         b'n' => figures::is_row_of_ones(line),
         b'r' => row_vectors::is_row(line),
         _ => is_met(line.len(), kind, fields_of(line, kind)),

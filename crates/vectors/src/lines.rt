@@ -8,18 +8,20 @@ pub const ROWS: u8 = 1;
 
 pub const STORES: u8 = 2;
 
-pub const SCORES: u8 = 3;
+pub const LAYERS: u8 = 3;
 
-pub const SINGLES: u8 = 4;
+pub const SCORES: u8 = 4;
+
+pub const SINGLES: u8 = 5;
 
 // The other kinds.
-const NONE: u8 = 5;
+const NONE: u8 = 6;
 
 // Every line.
-pub const FIGURES: u8 = 6;
+pub const FIGURES: u8 = 7;
 
-// Every line, and one of another kind than the first five groups have is wrong.
-pub const INPUT: u8 = 7;
+// Every line, and one of another kind than the first six groups have is wrong.
+pub const INPUT: u8 = 8;
 
 // A line feed ends each line, and a last line without one is wrong.
 pub fn count(text: &[u8], group: u8) -> Tally {
@@ -60,6 +62,7 @@ fn group_of(kind: u8) -> u8 {
         b'u' | b's' => PRODUCTS,
         b'r' => ROWS,
         b't' => STORES,
+        b'l' => LAYERS,
         b'h' => SCORES,
         b'f' => SINGLES,
         _ => NONE,

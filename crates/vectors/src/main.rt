@@ -4,6 +4,7 @@ mod field;
 mod fields;
 mod figures;
 mod kinds;
+mod layer_vectors;
 mod lines;
 mod product_vectors;
 mod refusal;
@@ -42,6 +43,7 @@ fn count(input: &[u8]) {
     print(b"products: ", input, lines::PRODUCTS);
     print(b"rows: ", input, lines::ROWS);
     print(b"stores: ", input, lines::STORES);
+    print(b"layers: ", input, lines::LAYERS);
     print(b"scores: ", input, lines::SCORES);
     print(b"singles: ", input, lines::SINGLES);
     tally::print(b"input: ", b" lines, ", lines::count(input, lines::INPUT));

@@ -17,13 +17,13 @@ use crate::refusal::is_refusal;
 use crate::slices::first;
 use rows::RowReport;
 
-// The most that a list or the residue slice has. A line that asks for more is not read.
-pub const ROOM: usize = 4110;
+// The most that a list, a store or a slice has. A line that asks for more is not read.
+pub const ROOM: usize = 12288;
 
-pub const LONGEST: u64 = 4110;
+pub const LONGEST: u64 = 12288;
 
-// What each place of the residue slice holds before the call. No residue is so large.
-const MARK: i64 = 1000000000000;
+// What each place of a slice that is written holds before the call. No residue and no score is so large.
+pub const MARK: i64 = 10000000000000;
 
 pub fn is_row(line: &[u8]) -> bool {
     let mut weights = [0i16; ROOM];
@@ -38,7 +38,7 @@ pub fn is_row(line: &[u8]) -> bool {
 
 // The length that stands there, 0 where none is read.
 pub fn count_at(line: &[u8], start: usize) -> usize
-    ensures { λ r. ⌜ r ≤ 4110 ⌝ }
+    ensures { λ r. ⌜ r ≤ 12288 ⌝ }
 {
     let count = field_at(line, start, LONGEST).code;
     if count <= LONGEST {
@@ -48,7 +48,7 @@ pub fn count_at(line: &[u8], start: usize) -> usize
 }
 
 // Reads a list to the front of `elements`, and answers where it ends.
-fn read_list(line: &[u8], start: usize, elements: &mut [i16; ROOM]) -> usize {
+pub fn read_list(line: &[u8], start: usize, elements: &mut [i16; ROOM]) -> usize {
     let count = count_at(line, start);
     let mut next = field_at(line, start, LONGEST).next;
     let mut i = 0;
@@ -154,8 +154,8 @@ fn is_report(report: RowReport, residues: u64, due: Due) -> bool {
         & (residues == due.last.g)
 }
 
-// The line ends with so many residues, which the first places hold. The later ones hold their mark.
-fn are_due(line: &[u8], start: usize, count: u64, places: &[i64; ROOM]) -> bool {
+// The line ends with so many residues or scores, which the first places hold. The later ones hold their mark.
+pub fn are_due(line: &[u8], start: usize, count: u64, places: &[i64; ROOM]) -> bool {
     let mut next = start;
     let mut i = 0;
     while i < ROOM {
@@ -165,11 +165,11 @@ fn are_due(line: &[u8], start: usize, count: u64, places: &[i64; ROOM]) -> bool 
     next == line.len()
 }
 
-// Where the next residue starts, if the place holds what is due there.
-fn after(line: &[u8], start: usize, place: i64, is_residue: bool) -> usize {
-    if !is_residue {
+// Where the next number starts, if the place holds what is due there.
+fn after(line: &[u8], start: usize, place: i64, is_written: bool) -> usize {
+    if !is_written {
         return next_if(place == MARK, start);
     }
-    let residue = field_at(line, start, I64);
-    next_if(place == i64_of(residue.code), residue.next)
+    let number = field_at(line, start, I64);
+    next_if(place == i64_of(number.code), number.next)
 }

@@ -1,8 +1,8 @@
 //! The figures of docs/SCOPE.md, number by number, against the archive and against the meaning that the other parts compare with.
 
-use highvane::{Design, Report, row_of, scale, score_row, single_product_of_bits, transcript};
+use highvane::{Design, Report, row_of, scale, score_layer, score_row, single_product_of_bits, transcript};
 
-use crate::meaning::{products, records, rows, scores, singles, stores};
+use crate::meaning::{layers, products, records, rows, scores, singles, stores};
 use crate::products::given;
 use crate::random::Random;
 use crate::tally::Tally;
@@ -113,6 +113,7 @@ pub fn all(_: &mut Random, tally: &mut Tally) {
         tally.same(singles::outcome(a, b), figure, || input() + ", by the meaning");
     }
     row(tally);
+    layer(tally);
     tally.same(transcript(SAMPLE), PRINTED.into(), || "sample of records".into());
     tally.same(records::transcript(SAMPLE), PRINTED.into(), || "sample, by the meaning".into());
 }
@@ -133,6 +134,17 @@ fn worst((weights, frame): (&[i16], &[i16]), (largest, place): (u64, u64), figur
     let meant =
         rows::outcome((1, 0), weights, frame, weights.len()).map(|(report, _)| (report.largest_residue, report.largest_place));
     tally.same(meant, Ok((largest.into(), place.into())), || format!("figure, largest residue of {weights:?}, by the meaning"));
+}
+
+/// The layer of the figures.
+fn layer(tally: &mut Tally) {
+    let (store, frame) = ([3, -5, 0, 7, 5, 6], [3, 6]);
+    let mut scores = [0; 3];
+    let given = score_layer(Design::Mitchell, &store, 2, &frame, &mut scores);
+    tally.outcome(given, Ok(3), || "figure, layer".into());
+    tally.same(scores, [-20, 40, 46], || "figure, scores of the layer".into());
+    let meant = layers::outcome((1, 0), (&store, 2), &frame, 3);
+    tally.same(meant, Ok(vec![-20, 40, 46]), || "figure, layer by the meaning".into());
 }
 
 /// The row of the figures, its score handed out, the limit of a row, and the empty store.

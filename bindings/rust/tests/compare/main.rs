@@ -4,6 +4,7 @@
 //! number, gives other inputs.
 
 mod figures;
+mod layers;
 mod meaning;
 mod products;
 mod random;
@@ -28,7 +29,7 @@ use tally::Tally;
 /// What a part compares, how often it is run, each time with another seed, and the part itself.
 type Part = (&'static str, usize, fn(&mut Random, &mut Tally));
 
-const PARTS: [Part; 26] = [
+const PARTS: [Part; 31] = [
     ("figures of docs/SCOPE.md", 1, figures::all),
     ("products: all byte pairs, every design and setting, every width", 1, products::byte_pairs),
     ("products: all pairs at width 12, design 1", 1, products::twelve_bit_pairs::<1>),
@@ -46,6 +47,11 @@ const PARTS: [Part; 26] = [
     ("rows: damaged", 4, rows::damaged),
     ("stores: all small ones", 1, stores::small),
     ("stores: seeded", 2, stores::seeded),
+    ("layers: 0 to 70 rows, every design and setting", 4, layers::short),
+    ("layers: one column and more than 4,090 rows, every design and setting", 1, layers::one_column),
+    ("layers: 4,095 and 4,096 columns, every design and setting", 2, layers::long),
+    ("layers: every set of faults", 4, layers::faults),
+    ("layers: damaged", 4, layers::damaged),
     ("scores: every shift, beside every power", 1, scores::edges),
     ("scores: seeded", 2, scores::seeded),
     ("singles: all exponent fields and signs", 1, singles::exponents),

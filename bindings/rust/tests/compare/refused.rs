@@ -70,5 +70,26 @@ pub fn fields(random: &mut Random, tally: &mut Tally) {
                 unsafe { row(setting, weights.as_ptr(), weights.len(), frame.as_ptr(), taken, residues.as_mut_ptr(), places) };
             compare(answer.refusal, answer.report, tally, || input(by));
         }
+
+        let (store, frame) = ([a as i16; 4], [b as i16; 3]);
+        let mut scores = [0; 2];
+        let (columns, taken, places) = (random.size(4), 1 + random.size(3), random.size(3));
+        // SAFETY: as above.
+        let answer = unsafe {
+            raw::highvane_score_layer(
+                design,
+                setting,
+                store.as_ptr(),
+                store.len(),
+                columns,
+                frame.as_ptr(),
+                taken,
+                scores.as_mut_ptr(),
+                places,
+            )
+        };
+        compare(answer.refusal, answer.rows, tally, || {
+            format!("layer, {numbers:?}, {store:?} and {frame:?}, {columns} columns, {taken} frame numbers, {places} places")
+        });
     }
 }

@@ -10,7 +10,7 @@ use crate::meaning::{demand, designs, products, rows};
 use crate::random::Random;
 use crate::tally::Tally;
 
-fn widened(report: highvane::Report) -> Report {
+pub fn widened(report: highvane::Report) -> Report {
     Report {
         score: report.score.into(),
         true_sum: report.true_sum.into(),
@@ -90,7 +90,7 @@ fn compare(numbers: (u32, u32), weights: &[i16], frame: &[i16], places: usize, r
 }
 
 /// Every design with every setting that a row takes.
-fn all_numbers() -> impl Iterator<Item = (u32, u32)> {
+pub fn all_numbers() -> impl Iterator<Item = (u32, u32)> {
     designs::DESIGNS.flat_map(|design| {
         (0..=16).filter(move |&setting| products::takes(design, 16, setting)).map(move |setting| (design, setting))
     })

@@ -14,7 +14,7 @@ use Rattle.designs.proofs.Sizes.{size-true}
 use Rattle.pairs.proofs.Integers.{read-back, read-true, size16, true-size}
 use Rattle.patterns.specs.Patterns.{isLow, Sizes}
 use Rattle.patterns.proofs.Pair.{less-size-is, product-size}
-use Rattle.patterns.proofs.SecondStage.{by-stages, left-logs, left-small, low-none}
+use Rattle.patterns.proofs.SecondStage.{by-stages, left-logs, left-small, low-both, low-none}
 use Rattle.patterns.proofs.twice_truncated_residue.Statement.{statement}
 use Rattle.patterns.proofs.twice_truncated_residue.Tie as tie
 
@@ -81,7 +81,7 @@ second-stage-requires : tie.Need-second-stage-requires
 second-stage-requires c κs =
     let s = sizes (at c) in
     subst₂ (λ (x y : ℕ). (x < 2 ^ 15) × (y < 2 ^ 15) × (log2 x + log2 y ≤ 27)) (sym (left-first c)) (sym (left-second c))
-    (left-small (low c) (A c) (s .first), left-small (low c) (B c) (s .second), left-logs (t (at c)) (A c) (B c) (s .some) (s .first) (s .second))
+    (left-small (low c) (A c) (s .first), left-small (low c) (B c) (s .second), left-logs (t (at c)) (A c) (B c) (low c) (low-both (t (at c)) (A c) (B c)) (s .some) (s .first) (s .second))
 
 -- the sum of both stages
 module _ (c : tie.After-second-stage) where
@@ -91,7 +91,7 @@ module _ (c : tie.After-second-stage) where
   sum : c .before .before .before .first-stage .result + c .second-stage .result ≡ product (twiceTruncated (t sized)) (natAbs (start sized .args .w)) (natAbs (start sized .args .x))
   sum =
       ap₂ _+_ (c .before .before .before .first-stage .ensures) (c .second-stage .ensures ∙ ap₂ (product (truncated 2)) (left-first (c .before)) (left-second (c .before)))
-      ∙ sym (by-stages (t sized) (A (c .before)) (B (c .before))) ∙ ap₂ (product (twiceTruncated (t sized))) (first sized) (second sized)
+      ∙ sym (by-stages (t sized) (A (c .before)) (B (c .before)) (low (c .before)) (low-both (t sized) (A (c .before)) (B (c .before)))) ∙ ap₂ (product (twiceTruncated (t sized))) (first sized) (second sized)
 
   small : c .before .before .before .first-stage .result + c .second-stage .result < 2 ^ 31
   small =

@@ -3,6 +3,7 @@
 
 pub mod demand;
 pub mod designs;
+pub mod layers;
 pub mod products;
 pub mod records;
 pub mod rows;

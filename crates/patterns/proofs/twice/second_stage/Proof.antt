@@ -28,7 +28,7 @@ module _ (c : tie.After-unless-zero2) where
       subst (Raised (start .args .x) (start .args .y))
       (sym (c .unless-zero2 .ensures ∙ ap₂ maskedBy (toZ-pos w32 {n = start .args .x} (omega (arith, start .pre .0))) (c .before .unless-zero .ensures ∙ ap (λ (z : ℤ). maskedBy z (higher .wrapping-add-u32 .result)) (toZ-pos w32 {n = start .args .y} (omega (arith, start .pre .1))))))
       (raised (start .args .x) (start .args .y) (start .pre .0) (start .pre .1) (start .pre .2) (sum .log-sum .result) (higher .wrapping-add-u32 .result) (search needs)
-      (sum .log-sum .ensures
+      (λ _ _. sum .log-sum .ensures
       ∙ ap₂ (λ (p q : ℕ). (p + q) % 2 ^ 32)
       (sum .before .before .before .cut .ensures ∙ ap mask (sum .before .before .before .before .size-pattern .ensures))
       (sum .before .cut2 .ensures ∙ ap mask (sum .before .before .size-pattern2 .ensures)))

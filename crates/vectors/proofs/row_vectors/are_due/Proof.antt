@@ -9,7 +9,7 @@ abbrev Inv-loop : tie.InvT-loop
 Inv-loop line start count places next₀ i₀ next i = Unit {0}
 
 abbrev μ-loop : tie.MeasureT-loop
-μ-loop line start count places next₀ i₀ next i = 4110 - i
+μ-loop line start count places next₀ i₀ next i = 12288 - i
 
 pub are-due-spec : {M : Type 1} → statement M
 are-due-spec =

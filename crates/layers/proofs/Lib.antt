@@ -1,0 +1,3 @@
+pub mod EachBlock
+pub mod LayerOutcome
+pub mod Accepted

@@ -1,0 +1,4 @@
+pub mod Layers
+pub mod Figures
+pub mod Blocks
+pub mod Answers

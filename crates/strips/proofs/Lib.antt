@@ -1,0 +1,10 @@
+pub mod FrameCodes
+pub mod Filling
+pub mod HalfSums
+pub mod PairProducts
+pub mod TwoStages
+pub mod EachRow
+pub mod EachStrip
+pub mod LeadingPowers
+pub mod EachStage
+pub mod Putting

@@ -1,0 +1,37 @@
+-- After j turns the first j places have what a stage leaves of as many numbers. Assumes nothing.
+use borrow.Author.Needs.{needs}
+use mathlib.Core.Path.{_∙_}
+use Prim.Native.Nat.{_-_}
+use native.Mathlib.Omega.{arith}
+use Rattle.strips.proofs.EachStage.{all-left, Leaving, leaves, leaves-none}
+use Rattle.strips.proofs.stages.first.Statement.{statement}
+use Rattle.strips.proofs.stages.first.Tie as tie
+
+abbrev Inv-loop : tie.InvT-loop
+Inv-loop n numbers left₀ j₀ left j = Leaving n numbers left₀ left j
+
+abbrev μ-loop : tie.MeasureT-loop
+μ-loop n numbers left₀ j₀ left j = n - j
+
+loop-again : tie.Need-loop-again Inv-loop μ-loop
+loop-again c =
+    let at = c .before .before .before in
+    leaves (at .loop .inv) (c .before .before .loop-test .taken) (omega (arith, at .before .pre .1)) (c .before .x .given) (c .rest-of .ok) (c .rest-of .ensures)
+
+pub first-spec : {M : Type 1} → statement M
+first-spec =
+    tie.close
+    (tie.spec
+    Inv-loop
+    μ-loop
+    (λ c. leaves-none)
+    (λ c. search needs)
+    (λ c. omega (arith, c .loop-test .taken, c .before .before .pre .0))
+    (λ c κs. search needs)
+    (λ c. search needs)
+    (λ c. let at = c .before .before .before in omega (arith, c .before .before .loop-test .taken, at .before .pre .1, at .loop .inv .done .size))
+    (λ c. search needs)
+    (λ c. search needs)
+    loop-again
+    (λ c. c .before .loop .inv .done .size)
+    (λ c. all-left (c .before .loop .inv) (c .loop-test .left) (c .before .before .pre .1)))

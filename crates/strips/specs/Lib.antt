@@ -1,0 +1,4 @@
+pub mod Codes
+pub mod Halves
+pub mod Strips
+pub mod Stages

@@ -1,0 +1,32 @@
+-- What the stages of design 3 keep of the pairs of a row and a strip. Definitions only.
+use mathlib.Core.Path.{_≡_}
+use mathlib.Core.List.{List}
+use Prim.Native.Nat.{ℕ, min, max, _+_, _^_, _≤_, _<_}
+use lib.IntN.{ℤ, natAbs}
+use lib.ListN.{length}
+use Rattle.designs.specs.Designs.{staged}
+use Rattle.designs.specs.Signs.{leftℤ, signedProduct}
+use Rattle.patterns.specs.Blocks.{place}
+use Rattle.strips.specs.Strips.{started}
+
+-- The stages that are taken: at least 1 and at most 16. A number of stages outside acts as the nearest of these.
+abbrev pub stagesOf : ℕ → ℕ
+stagesOf s = max 1 (min s 16)
+
+-- how many pairs a row and a part of a frame have
+abbrev pub pairsOf : List ℤ → List ℤ → ℕ
+pairsOf ws part = min (length ws) (length part)
+
+-- n numbers of a list have 16 bits
+pub record Sized (n : ℕ) (numbers : List ℤ) : Type 0 where
+  pub at : (k : ℕ) → k < n → natAbs (place numbers k) ≤ 2 ^ 15
+
+-- what i stages leave of n numbers
+pub record Left (i n : ℕ) (numbers left : List ℤ) : Type 0 where
+  pub room : n ≤ length left
+  pub at : (k : ℕ) → k < n → place left k ≡ leftℤ i (place numbers k)
+
+-- The products of i stages, for each pair. Before the first stage the places for them count for nothing.
+pub record Multiplied (i : ℕ) (ws part products : List ℤ) : Type 0 where
+  pub size : length products ≡ 64
+  pub at : (k : ℕ) → k < pairsOf ws part → started i (place products k) ≡ signedProduct (staged i) (place ws k) (place part k)
