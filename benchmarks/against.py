@@ -16,7 +16,7 @@ from pathlib import Path
 
 sys.dont_write_bytecode = True  # nothing is to appear in the repository
 
-from measure import BY_ITSELF, OURS, Code, archive_of, counts, link_rows, output, times  # noqa: E402
+from measure import BY_ITSELF, OURS, Code, archive_of, counts, link, output, times  # noqa: E402
 from row_tables import DESIGNS, PAIRS, number, table  # noqa: E402
 
 PREFIX = 'other_'
@@ -64,7 +64,7 @@ def main():
     with tempfile.TemporaryDirectory() as name:
         folder = Path(name)
         output(['objcopy', f'--prefix-symbols={PREFIX}', other, folder / 'other.a'])
-        link_rows([OURS, PREFIX + OURS], [archive, folder / 'other.a'], folder / 'rows', *(['-DSHORTER'] if shorter else []))
+        link('rows.c', [OURS, PREFIX + OURS], [archive, folder / 'other.a'], folder / 'rows', *(['-DSHORTER'] if shorter else []))
         lengths = [int(length) for length in chosen[0]] if chosen else [1, 8, PAIRS]
         compare(folder / 'rows', lengths, int(designs[0][0]) if designs else max(BY_ITSELF))
 

@@ -1,6 +1,8 @@
 """Builds the programs of this folder with an archive, and takes figures from them: instructions, code bytes and stack bytes."""
+import contextlib
 import re
 import subprocess
+import sys
 import tempfile
 from pathlib import Path
 
@@ -29,6 +31,12 @@ BEST_ROWS |= {'c_patterns': ['-O3', '-DPATTERNS'], 'c_patterns_native': ['-O3', 
 RUST_ROWS = {'rust_each': [], 'rust_one_loop': ['--cfg=one_loop']}
 ROWS = [OURS, *C_ROWS, *RUST_ROWS]
 ALL_ROWS = [*ROWS, *BEST_ROWS]
+# A layer, its rows one by one, and those written by hand; with every instruction of the machine too, of which times alone are taken.
+LAYER, ROW_BY_ROW = 'highvane_score_layer', 'row_by_row'
+C_LAYERS = {'c_masked': ['-O3'], 'c_branching': ['-O3', '-DBRANCHING'], 'c_patterns': ['-O3', '-DPATTERNS']}
+BEST_LAYERS = {f'{name}_native': [*C_LAYERS[name], '-march=native'] for name in ('c_masked', 'c_patterns')}
+LAYERS = [LAYER, ROW_BY_ROW, *C_LAYERS]
+ALL_LAYERS = [*LAYERS, *BEST_LAYERS]
 
 
 def output(command, **options):
@@ -42,24 +50,35 @@ def output(command, **options):
     return done.stdout
 
 
+def compiled(source, macro, variants, folder):
+    """Compiles a file of C once for each variant, whose function has the variant's name, and gives the objects."""
+    objects = []
+    for name, flags in variants.items():
+        objects.append(folder / f'{name}.o')
+        output([*C, *flags, f'-D{macro}={name}', '-c', HERE / source, '-o', objects[-1]])
+    return objects
+
+
 def build(archive, folder):
     """Compiles the rows written by hand and the three programs into `folder`."""
-    objects = []
-    for name, flags in (C_ROWS | BEST_ROWS).items():
-        objects.append(folder / f'{name}.o')
-        output([*C, *flags, f'-DSCORE_ROW={name}', '-c', HERE / 'row.c', '-o', objects[-1]])
+    objects = compiled('row.c', 'SCORE_ROW', C_ROWS | BEST_ROWS, folder)
     for name, flags in RUST_ROWS.items():
         objects.append(folder / f'{name}.o')
         output([*RUST, *flags, HERE / 'row.rs', '-o', objects[-1]])
-    link_rows(ALL_ROWS, [*objects, archive], folder / 'rows')
+    link('rows.c', ALL_ROWS, [*objects, archive], folder / 'rows')
     for program in ('operations', 'stack'):
         output([*C, '-O2', HERE / f'{program}.c', archive, '-o', folder / program])
 
 
-def link_rows(names, objects, program, *flags):
-    """Links the program that calls rows, of these names, with the objects that have them."""
+def build_layers(archive, folder):
+    """Compiles the layers written by hand and the program that calls them into `folder`."""
+    link('layers.c', ALL_LAYERS, [*compiled('layer.c', 'SCORE_LAYER', C_LAYERS | BEST_LAYERS, folder), archive], folder / 'layers')
+
+
+def link(source, names, objects, program, *flags):
+    """Links the program that calls rows or layers, of these names, with the objects that have them."""
     listed = ' '.join(f'X({name})' for name in names)
-    output([*C, '-O2', f'-DIMPLEMENTATIONS={listed}', *flags, HERE / 'rows.c', *objects, '-o', program])
+    output([*C, '-O2', f'-DIMPLEMENTATIONS={listed}', *flags, HERE / source, *objects, '-o', program])
 
 
 def archive_of(argument=None):
@@ -68,6 +87,17 @@ def archive_of(argument=None):
     if not archive.is_file():
         raise SystemExit(f'benchmarks: there is no archive {archive}; tools/archive makes target/libhighvane.a')
     return archive.resolve()
+
+
+@contextlib.contextmanager
+def built(build, usage):
+    """A folder with what `build` makes of the archive that the command line names, or else of the one that tools/archive makes."""
+    if len(sys.argv) > 2 or sys.argv[1:] in (['-h'], ['--help']):
+        raise SystemExit(usage)
+    archive = archive_of(*sys.argv[1:])
+    with tempfile.TemporaryDirectory() as name:
+        build(archive, Path(name))
+        yield Path(name)
 
 
 def counts(program, functions, lines):
@@ -104,7 +134,7 @@ def run_bytes(program, name, calls):
 
 
 def times(program, calls):
-    """Nanoseconds of a call, by its design, setting and pairs and by the name of the implementation."""
+    """Nanoseconds of a call, by its design, its setting, its pairs, or rows and columns, and the name of the implementation."""
     printed = output([program, 'time'], input=''.join(f'{" ".join(map(str, call))}\n' for call in calls))
     found = {}
     for line in printed.splitlines():

@@ -24,41 +24,17 @@
  * place by a loop of their own took 1.04 to 1.15 times the time of rows of 4,096 pairs.
  */
 #include <stdlib.h>
-#include <string.h>
 
-#include "highvane.h"
+#include "by_hand.h"
 
 #ifndef SCORE_ROW
 #define SCORE_ROW c_score_row
 #endif
 
-static const uint32_t TOP = 0x80000000;
-
-static inline uint32_t leading_zeros(uint32_t x) {
-    return (uint32_t)__builtin_clz(x);
-}
-
-/* The product of two numbers with `zeros` leading zeros together, whose fractions, below bit 31, have the sum `sum`. */
-static inline uint32_t power_of(uint32_t sum, uint32_t zeros) {
-    if (sum >> 31) zeros--; /* the fractions carry into the exponent; gcc makes no branch of this */
-    return (sum | TOP) >> (zeros - 31);
-}
-
 static inline uint32_t mitchell(uint32_t a, uint32_t b) {
     uint32_t k = leading_zeros(a), m = leading_zeros(b);
     /* both leading ones stand at bit 31 and cancel modulo 2^32 */
     return power_of((a << k) + (b << m), k + m);
-}
-
-/* gcc makes one bsr of this, and not of 31 - clz */
-static inline uint32_t log2_floor(uint32_t x) {
-    return 31 ^ leading_zeros(x);
-}
-
-static inline uint32_t near_power(uint32_t x) {
-    uint32_t k = log2_floor(x);
-    /* the leading two bits of 2x, 2 or 3 */
-    return k + (2 * x >> k) - 2;
 }
 
 static inline uint32_t nearest(uint32_t a, uint32_t b) {
@@ -76,12 +52,6 @@ static inline uint32_t staged(uint32_t stages, uint32_t a, uint32_t b) {
         a -= 1u << k;
     } while (--stages && a && b);
     return sum;
-}
-
-/* The sum of the kept bits of two fractions and of the carry, below bit 31; the numbers' leading ones stand there and cancel. */
-static inline uint32_t kept_sum(uint32_t kept_bits, uint32_t a, uint32_t b) {
-    uint32_t carry = TOP >> kept_bits, kept = -carry;
-    return (a & kept) + (b & kept) + carry;
 }
 
 /* Always inlined, since two designs have it: as a call, at gcc -Os, it takes more instructions and more bytes. */
@@ -168,30 +138,10 @@ static inline __attribute__((always_inline)) highvane_report accumulate(uint32_t
 }
 
 #ifdef PATTERNS
-static inline uint32_t pattern_of(float value) {
-    uint32_t pattern;
-    memcpy(&pattern, &value, sizeof pattern);
-    return pattern;
-}
-
-static inline float value_of(uint32_t pattern) {
-    float value;
-    memcpy(&value, &pattern, sizeof value);
-    return value;
-}
-
 /* The patterns of two numbers, added, less that of 1, are the pattern of design 1's product, with its sign. */
 static inline int32_t mitchell_by_patterns(int32_t w, int32_t x, int32_t truth) {
     uint32_t sum = pattern_of(w) + pattern_of(x) - pattern_of(1);
     return (int32_t)value_of(truth == 0 ? 0 : sum);
-}
-
-static const uint32_t POWER = 0x7F800000, TWO_KEPT = 0x7FE00000, SECOND_CARRY = 1 << 21;
-
-/* What is left of a size is its distance from the power of two below it, or where the fractions carry from the next one less 1. */
-static inline uint32_t left_by_patterns(float size, uint32_t carried) {
-    float power = value_of(pattern_of(size) & POWER);
-    return pattern_of(size - power - value_of(pattern_of(power - 1) & carried)) & TWO_KEPT;
 }
 
 /* So are those of design 5, of sizes, by what is kept of the patterns and the carry. Where one of the parts left is 0, and so its

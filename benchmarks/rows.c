@@ -11,29 +11,15 @@
  *
  * Where SHORTER, the second implementation is of before version 2.4, whose report ended with the refusal after nonzero_pairs.
  */
-#include <stdio.h>
-#include <stdlib.h>
-#include <time.h>
 #include <valgrind/callgrind.h>
 
 #include "highvane.h"
 #include "seeded.h"
 
-typedef highvane_report score_row(uint32_t design, uint32_t setting, const int16_t *weights, size_t weights_len,
-                                  const int16_t *frame, size_t frame_len, int64_t *residues, size_t residues_len);
+typedef highvane_report implementation(uint32_t design, uint32_t setting, const int16_t *weights, size_t weights_len,
+                                       const int16_t *frame, size_t frame_len, int64_t *residues, size_t residues_len);
 
-#define X(name) extern score_row name;
-IMPLEMENTATIONS
-#undef X
-
-static const struct {
-    const char *name;
-    score_row *call;
-} implementations[] = {
-#define X(name) {#name, name},
-    IMPLEMENTATIONS
-#undef X
-};
+#include "turns.h"
 
 /* each is called with the setting alone */
 static const struct {
@@ -48,7 +34,7 @@ static const struct {
     {"highvane_score_row_twice_truncated", highvane_score_row_twice_truncated},
 };
 
-enum { COUNT = sizeof implementations / sizeof *implementations, PAIRS = HIGHVANE_PAIRS_MAX, ROUNDS = 301 };
+enum { PAIRS = HIGHVANE_PAIRS_MAX, ROUNDS = 301 };
 
 /* one pair more than a row may have, so that the refusal can be asked for */
 static int16_t weights[PAIRS + 1], frame[PAIRS + 1];
@@ -100,17 +86,8 @@ static void compare_settings(size_t pairs) {
 }
 
 static void compare_boundaries(void) {
-    int16_t numbers[128];
-    size_t count = 0, pairs = 0;
-    numbers[count++] = INT16_MIN;
-    numbers[count++] = 0;
-    for (int k = 0; k < 15; k++)
-        for (int sign = -1; sign <= 1; sign += 2) {
-            numbers[count++] = (int16_t)(sign * (1 << k));
-            numbers[count++] = (int16_t)(sign * ((1 << k) + 1));
-            numbers[count++] = (int16_t)(sign * ((2 << k) - 1));
-            numbers[count++] = (int16_t)(sign * ((3 << k) / 2));
-        }
+    int16_t numbers[BOUNDARIES];
+    size_t count = boundary_numbers(numbers), pairs = 0;
     for (size_t i = 0; i < count; i++)
         for (size_t j = 0; j < count; j++) {
             weights[pairs] = numbers[i];
@@ -169,17 +146,6 @@ static void measure(const char *line) {
     exit(1);
 }
 
-static double nanoseconds(void) {
-    struct timespec at;
-    clock_gettime(CLOCK_MONOTONIC, &at);
-    return 1e9 * (double)at.tv_sec + (double)at.tv_nsec;
-}
-
-static int by_size(const void *a, const void *b) {
-    double x = *(const double *)a, y = *(const double *)b;
-    return (x > y) - (x < y);
-}
-
 /* The median of ROUNDS, in each of which all implementations take their turn. Each turn has uniform numbers that were never seen before,
    since a branch predictor learns a row that comes again; short rows are many calls on parts of them. */
 static void take_times(const char *line) {
@@ -203,23 +169,16 @@ static void take_times(const char *line) {
                 implementations[i].call(design, setting, weights + at, pairs, frame + at, pairs, residues[i] + at, pairs);
             taken[i][round] = (nanoseconds() - start) / (double)calls_each;
         }
-    for (int i = 0; i < COUNT; i++) {
-        qsort(taken[i], ROUNDS, sizeof taken[i][0], by_size);
-        printf("%s\t%s\t%f\n", line, implementations[i].name, taken[i][ROUNDS / 2]);
-    }
+    for (int i = 0; i < COUNT; i++)
+        printf("%s\t%s\t%f\n", line, implementations[i].name, median(taken[i], ROUNDS));
 }
 
 int main(int argc, char **argv) {
-    char line[256];
-    void (*answer)(const char *line) = argc == 2 && !strcmp(argv[1], "time") ? take_times : measure;
     if ((argc == 2 || argc == 3) && !strcmp(argv[1], "check")) {
         if (argc == 3) designs = (uint32_t)atoi(argv[2]);
         check();
         return 0;
     }
-    while (fgets(line, sizeof line, stdin)) {
-        line[strcspn(line, "\n")] = 0;
-        answer(line);
-    }
+    answer_lines(argc == 2 && !strcmp(argv[1], "time") ? take_times : measure);
     return 0;
 }

@@ -1,5 +1,5 @@
 #!/usr/bin/env python3
-"""Print the tables of docs/PERFORMANCE.md that are measured on the compiled archive, as Markdown.
+"""Print the tables of docs/PERFORMANCE.md that are measured on the compiled archive, as Markdown, but for those of layers (layers.py).
 
 Times of rows are medians over rows that no implementation has seen, in turns in one run. Instructions are callgrind's, which repeat
 exactly. Every implementation is first compared with the library on the reports and the residues of many rows, so that nothing is
@@ -8,12 +8,10 @@ measured that does not do the same work.
 Usage: python3 benchmarks/run.py [ARCHIVE]     (the default is target/libhighvane.a, which tools/archive makes)
 """
 import sys
-import tempfile
-from pathlib import Path
 
 sys.dont_write_bytecode = True  # nothing is to appear in the repository
 
-from measure import ALL_ROWS, BY_ITSELF, ROWS, archive_of, build, counts, output  # noqa: E402
+from measure import ALL_ROWS, BY_ITSELF, ROWS, build, built, counts, output  # noqa: E402
 from row_tables import (DESIGNS, Rows, code_table, design_code_table, growth_tables, number, own_code_table,  # noqa: E402
                         own_table, pair_tables, refusal_table, stage_table, table, time_tables, wrong_table)
 
@@ -96,19 +94,15 @@ def print_tables(rows, folder, agreed):
     print('fifteen: 32,767 has fifteen ones.\n')
     table(*stage_table(rows))
     print('### Stack bytes of an operation, the return address and all that it calls included\n')
-    table(['operation', 'bytes'], [line.split('\t') for line in output([folder / 'stack']).splitlines()])
+    lines = [line.split('\t') for line in output([folder / 'stack']).splitlines()]
+    table(['operation', 'bytes'], [[operation, number(int(depth))] for operation, depth in lines])
     print('### The other operations: instructions a call\n')
     for head, body in operation_tables(folder / 'operations'):
         table(head, body)
 
 
 def main():
-    if len(sys.argv) > 2 or sys.argv[1:] in (['-h'], ['--help']):
-        sys.exit(__doc__)
-    archive = archive_of(*sys.argv[1:])
-    with tempfile.TemporaryDirectory() as name:
-        folder = Path(name)
-        build(archive, folder)
+    with built(build, __doc__) as folder:
         agreed = output([folder / 'rows', 'check'])
         rows = Rows()
         for ask in (pair_tables, wrong_table, growth_tables, own_table, refusal_table, stage_table):

@@ -1,4 +1,5 @@
-/* Numbers that look random and are the same in every run (splitmix64), and the rows made of them. */
+/* Numbers that look random and are the same in every run (splitmix64), the rows made of them, and the numbers where designs change
+   their ways. */
 #ifndef SEEDED_H
 #define SEEDED_H
 
@@ -41,6 +42,23 @@ static inline int seeded_row(const char *data, int16_t *weights, int16_t *frame,
         }
     }
     return 1;
+}
+
+enum { BOUNDARIES = 128 };
+
+/* Powers of two, the numbers beside them and half way between them, with either sign; 0 and the lowest. Gives how many they are. */
+static inline size_t boundary_numbers(int16_t numbers[BOUNDARIES]) {
+    size_t count = 0;
+    numbers[count++] = INT16_MIN;
+    numbers[count++] = 0;
+    for (int k = 0; k < 15; k++)
+        for (int sign = -1; sign <= 1; sign += 2) {
+            numbers[count++] = (int16_t)(sign * (1 << k));
+            numbers[count++] = (int16_t)(sign * ((1 << k) + 1));
+            numbers[count++] = (int16_t)(sign * ((2 << k) - 1));
+            numbers[count++] = (int16_t)(sign * ((3 << k) / 2));
+        }
+    return count;
 }
 
 #endif

@@ -61,7 +61,7 @@ static void print(const char *operation) {
 }
 
 static int16_t weights[64], frame[64];
-static int64_t residues[64];
+static int64_t residues[64], scores[16];
 static uint8_t text[HIGHVANE_TRANSCRIPT_MAX];
 static highvane_report report;
 static highvane_scaled scaled;
@@ -104,6 +104,12 @@ int main(void) {
     ROW_BY_ITSELF(highvane_score_row_staged, HIGHVANE_STAGED);
     ROW_BY_ITSELF(highvane_score_row_truncated, HIGHVANE_TRUNCATED);
     ROW_BY_ITSELF(highvane_score_row_twice_truncated, HIGHVANE_TWICE_TRUNCATED);
+    /* sixteen rows of four columns, and one row of 64; the answer comes in registers */
+    for (uint64_t design = 0; design <= 6; design++) {
+        TRY(highvane_score_layer, design, setting_of(design, 16), (uint64_t)weights, 64, 4, (uint64_t)frame, 4, (uint64_t)scores, 16);
+        TRY(highvane_score_layer, design, setting_of(design, 16), (uint64_t)weights, 64, 64, (uint64_t)frame, 64, (uint64_t)scores, 16);
+    }
+    print("highvane_score_layer");
     for (uint64_t design = 0; design <= 6; design++)
         TRY(highvane_product_unsigned, design, 32, setting_of(design, 32), UINT32_MAX, UINT32_MAX);
     TRY(highvane_product_unsigned, HIGHVANE_TWICE_TRUNCATED, 32, 31, 3000000000, 3000000000);

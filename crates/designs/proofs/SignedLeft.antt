@@ -1,12 +1,11 @@
 -- Design 3 on signed operands: what s stages leave keeps the operand's sign, and the residue is the product of what they leave of both.
 -- One stage takes the leading power off, with the sign. Assumes nothing.
 use mathlib.Core.Path.{_≡_, refl, sym, ap, ap₂, _∙_}
-use Prim.Native.Nat.{ℕ, zero, suc, _+_, _*_, _^_, _≤_, _<_}
+use Prim.Native.Nat.{ℕ, zero, suc, _+_, _*_, _^_, _≤_}
 use native.Mathlib.Omega.{arith}
 use mathlib.Core.Bool.{Bool, true, false}
 use lib.Ieee.{unlike}
 use lib.IntN.{ℤ, pos, natAbs, _+ℤ_, _-ℤ_, _*ℤ_}
-use lib.Pow.{pow-pos}
 use Rattle.designs.specs.Designs.{byStages, Design, left, log2, mitchell, product, rest, stage, staged}
 use Rattle.designs.specs.Signs.{leftℤ, negative, residue, restℤ, signedProduct, withSign}
 use Rattle.designs.proofs.Parts.{parts, rest-half, rest-zero}
@@ -22,7 +21,7 @@ abbrev pub lead : ℕ → ℕ
 lead zero = 0
 lead (suc A) = 2 ^ log2 (suc A)
 
-lead-rest : (A : ℕ) → A ≡ lead A + rest A
+pub lead-rest : (A : ℕ) → A ≡ lead A + rest A
 lead-rest zero = omega (arith, rest-zero)
 lead-rest (suc A) = parts (suc A) (omega arith)
 
@@ -39,10 +38,6 @@ rest-is z =
 pub rest-size : (z : ℤ) → natAbs (restℤ z) ≤ natAbs z
 unfolding restℤ
 rest-size z = omega (arith, size-sign (negative z) (rest (natAbs z)), rest-half (natAbs z))
-
-pub rest-less : (n : ℕ) (z : ℤ) → natAbs z ≤ 2 ^ n → natAbs (restℤ z) < 2 ^ n
-unfolding restℤ
-rest-less n z h = omega (arith, size-sign (negative z) (rest (natAbs z)), rest-half (natAbs z), pow-pos n)
 
 -- no stage, and one more
 pub left-none : (z : ℤ) → leftℤ 0 z ≡ z

@@ -1,6 +1,7 @@
 pub mod Values
 pub mod Pair
 pub mod Moved
+pub mod Rests
 pub mod Mitchell
 pub mod ExponentField
 pub mod KeptPatterns

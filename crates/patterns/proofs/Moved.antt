@@ -21,7 +21,7 @@ use Rattle.patterns.proofs.Values.{narrow-bits}
 abbrev pub moved : ℤ → ℤ
 moved x = x *ℤ pos 65536
 
-moved-is : (x : ℤ) → moved x ≡ withSign (negative x) (natAbs x * 65536)
+pub moved-is : (x : ℤ) → moved x ≡ withSign (negative x) (natAbs x * 65536)
 moved-is (pos n) = refl
 moved-is (negsuc n) = refl
 

@@ -27,7 +27,7 @@ unfolding ofInt
 int-value f (pos n) l = round-whole f false n l
 int-value f (negsuc n) l = round-whole f true (suc n) l
 
-signed-value : (f : Format) (s : Bool) (n : ℕ) → 0 < n → n ≤ 2 ^ prec f → HasValue (ofInt f (withSign s n)) s n 1
+pub signed-value : (f : Format) (s : Bool) (n : ℕ) → 0 < n → n ≤ 2 ^ prec f → HasValue (ofInt f (withSign s n)) s n 1
 signed-value f false n p l = int-value f (pos n) l
 signed-value f true zero p l = absurd (omega arith)
 signed-value f true (suc n) p l = int-value f (negsuc n) l

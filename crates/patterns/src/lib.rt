@@ -26,7 +26,6 @@ use crate::twice::is_low;
 use crate::twice::left_over;
 use crate::twice::second_stage;
 pub use powers::offset_of;
-pub use powers::rest_of;
 pub use raising::carried;
 pub use raising::kept;
 pub use raising::lead;

@@ -2,7 +2,6 @@
 ghost use mathlib.Core.Path.{_≡_};
 ghost use Prim.Native.Nat.{_^_, _≤_};
 ghost use lib.IntN.{natAbs};
-ghost use Rattle.designs.specs.Signs.{restℤ};
 ghost use Rattle.patterns.specs.Patterns.{fieldPower, lessPower};
 use crate::logs::pattern_of;
 use crate::logs::size_pattern;
@@ -35,13 +34,6 @@ pub fn offset_of(x: i16) -> i16
     ensures { λ r. ⌜ r ≡ lessPower (2 ^ 22) x ⌝ }
 {
     offset(x) as i16
-}
-
-// What one stage of design 3 leaves of a number, with its sign.
-pub fn rest_of(x: i16) -> i16
-    ensures { λ r. ⌜ r ≡ restℤ x ⌝ }
-{
-    less_power(x as i32, 0) as i16
 }
 
 // The leading power of a size; 0 for 0.

@@ -3,10 +3,12 @@ use mathlib.Core.Path.{_≡_}
 use mathlib.Core.List.{List}
 use Prim.Native.Nat.{ℕ, min, max, _+_, _^_, _≤_, _<_}
 use lib.IntN.{ℤ, natAbs}
-use lib.ListN.{length}
+use lib.ListN.{getD, length}
 use Rattle.designs.specs.Designs.{staged}
 use Rattle.designs.specs.Signs.{leftℤ, signedProduct}
 use Rattle.patterns.specs.Blocks.{place}
+use Rattle.patterns.specs.Patterns.{raisedOf}
+use Rattle.strips.specs.Codes.{codeOf}
 use Rattle.strips.specs.Strips.{started}
 
 -- The stages that are taken: at least 1 and at most 16. A number of stages outside acts as the nearest of these.
@@ -17,14 +19,15 @@ stagesOf s = max 1 (min s 16)
 abbrev pub pairsOf : List ℤ → List ℤ → ℕ
 pairsOf ws part = min (length ws) (length part)
 
--- n numbers of a list have 16 bits
-pub record Sized (n : ℕ) (numbers : List ℤ) : Type 0 where
-  pub at : (k : ℕ) → k < n → natAbs (place numbers k) ≤ 2 ^ 15
-
--- what i stages leave of n numbers
-pub record Left (i n : ℕ) (numbers left : List ℤ) : Type 0 where
+-- the raised patterns of what i stages leave of n numbers, which have 16 bits
+pub record Left (i n : ℕ) (numbers : List ℤ) (left : List ℕ) : Type 0 where
   pub room : n ≤ length left
-  pub at : (k : ℕ) → k < n → place left k ≡ leftℤ i (place numbers k)
+  pub small : (k : ℕ) → k < n → natAbs (place numbers k) ≤ 2 ^ 15
+  pub at : (k : ℕ) → k < n → getD left k 0 ≡ raisedOf (leftℤ i (place numbers k))
+
+-- the codes that go with them
+pub record Codes (i n : ℕ) (numbers : List ℤ) (codes : List ℕ) : Type 0 where
+  pub at : (k : ℕ) → k < n → getD codes k 0 ≡ codeOf (leftℤ i (place numbers k))
 
 -- The products of i stages, for each pair. Before the first stage the places for them count for nothing.
 pub record Multiplied (i : ℕ) (ws part products : List ℤ) : Type 0 where

@@ -11,7 +11,7 @@ ghost use Rattle.strips.specs.Codes.{codeBy, codeOf, Coded, leftCode, of
 const RAISED_TWICE: u32 = 159 << 23;
 
 // The code that goes with a raised pattern.
-fn code(p: u32) -> u32
+pub(crate) fn code(p: u32) -> u32
     ensures { λ r. ⌜ ((h : ℕ → ℕ) (z : ℤ) → p ≡ raisedBy h z → r ≡ codeBy h z) ⌝ }
 {
     if p == 0 {

@@ -5,8 +5,8 @@ ghost use Prim.Native.Nat.{ℕ, _^_, _≤_, _<_};
 ghost use lib.IntN.{ℤ, natAbs};
 ghost use Rattle.designs.specs.Codes.{code, keptCode};
 ghost use Rattle.designs.specs.Designs.{mitchell, nearest, product, staged, truncated, twiceTruncated, unlessZero};
-ghost use Rattle.designs.specs.Signs.{signedProduct, withSign};
-ghost use Rattle.patterns.specs.Patterns.{clamped, powerOf, Stands};
+ghost use Rattle.designs.specs.Signs.{restℤ, signedProduct, withSign};
+ghost use Rattle.patterns.specs.Patterns.{clamped, powerOf, raisedOf, Stands};
 ghost use Rattle.strips.specs.Codes.{codeOf, Logs, NearLogs, SecondLogs, StageLogs, TwiceCoded};
 
 // The second stage of design 5 keeps two bits.
@@ -62,6 +62,15 @@ fn lead_code(q: u32) -> u32
     ensures { λ r. ⌜ ((z : ℤ) → natAbs z ≤ 2 ^ 15 → q ≡ codeOf z → r ≡ codeOf (powerOf 0 z)) ⌝ }
 {
     q & POWERS
+}
+
+// The raised pattern of what a stage of design 3 leaves of a number. Less its leading power the number is a binary32 again, so that the
+// difference is exact.
+pub(crate) fn rest(p: u32) -> u32
+    requires { ⌜ ((z : ℤ) × (natAbs z ≤ 2 ^ 15) × (p ≡ raisedOf z)) ⌝ }
+    ensures { λ r. ⌜ ((z : ℤ) → natAbs z ≤ 2 ^ 15 → p ≡ raisedOf z → r ≡ raisedOf (restℤ z)) ⌝ }
+{
+    f32::to_bits(f32::from_bits(p) - f32::from_bits(patterns::lead(p)))
 }
 
 // By one stage of design 3, as by design 2: leading powers stand for the nearest ones.

@@ -91,7 +91,7 @@ impl Layer {
 pub fn short(random: &mut Random, tally: &mut Tally) {
     for numbers in all_numbers() {
         for rows in ROWS.into_iter().chain([random.size(70)]) {
-            for columns in [1, 2, 63, 64, 65, 1 + random.size(40)] {
+            for columns in [1, 2, 63, 64, 65, 1 + random.size(200)] {
                 for kind in KINDS {
                     Layer::of(numbers, (rows, columns), kind, random).compare(random, tally);
                 }
@@ -106,6 +106,17 @@ pub fn one_column(random: &mut Random, tally: &mut Tally) {
         for kind in KINDS {
             let rows = 4090 + random.size(20);
             Layer::of(numbers, (rows, 1), kind, random).compare(random, tally);
+        }
+    }
+}
+
+/// Every number of rows at the borders of blocks with the fewest columns and with the most, by every design with any of its settings.
+pub fn at_the_borders(random: &mut Random, tally: &mut Tally) {
+    for design in designs::DESIGNS {
+        let settings: Vec<_> = all_numbers().filter(|numbers| numbers.0 == design).collect();
+        for shape in ROWS.into_iter().flat_map(|rows| [(rows, 1), (rows, 4096)]) {
+            let (numbers, kind) = (random.pick(&settings), random.pick(&KINDS));
+            Layer::of(numbers, shape, kind, random).compare(random, tally);
         }
     }
 }

@@ -29,7 +29,7 @@ use tally::Tally;
 /// What a part compares, how often it is run, each time with another seed, and the part itself.
 type Part = (&'static str, usize, fn(&mut Random, &mut Tally));
 
-const PARTS: [Part; 31] = [
+const PARTS: [Part; 32] = [
     ("figures of docs/SCOPE.md", 1, figures::all),
     ("products: all byte pairs, every design and setting, every width", 1, products::byte_pairs),
     ("products: all pairs at width 12, design 1", 1, products::twelve_bit_pairs::<1>),
@@ -48,6 +48,7 @@ const PARTS: [Part; 31] = [
     ("stores: all small ones", 1, stores::small),
     ("stores: seeded", 2, stores::seeded),
     ("layers: 0 to 70 rows, every design and setting", 4, layers::short),
+    ("layers: 0, 1, 15, 16, 17, 32 and 33 rows, 1 and 4,096 columns, every design", 2, layers::at_the_borders),
     ("layers: one column and more than 4,090 rows, every design and setting", 1, layers::one_column),
     ("layers: 4,095 and 4,096 columns, every design and setting", 2, layers::long),
     ("layers: every set of faults", 4, layers::faults),

@@ -82,7 +82,7 @@ staged-spec =
     (λ c. search needs)
     (λ c. search needs)
     (λ c. search needs)
-    (λ c κs. let strip = c .before in (strip-few strip, at strip .loop .inv .0, some strip, most strip))
+    (λ c κs. let strip = c .before in (strip-few strip, at strip .loop .inv .0, most strip))
     staged-requires
     (λ c. let f = found (c .before .before .before .before .before .before .before) in omega (arith, f .ahead .ensures, f .before .loop-test .taken))
     loop-again
