@@ -13,8 +13,6 @@ mod stages;
 mod sums;
 
 pub use rows::ahead;
-pub use rows::so_far;
-pub use sums::sum;
 
 // The most numbers of a strip, and of a frame.
 pub const STRIP: usize = 64;

@@ -55,8 +55,8 @@ fn next(n: usize, left: &mut [u32])
 {
     let mut j = 0;
     while j < n {
-        let p = left[j];
-        left[j] = products::rest(p);
+        let q = left[j];
+        left[j] = products::rest(q);
         j += 1;
     }
 }

@@ -45,7 +45,7 @@ fn joined(halves: Halves) -> i64
 }
 
 // The sum of numbers, of the first 64 at most.
-pub fn sum(numbers: &[i32]) -> i64
+pub(crate) fn sum(numbers: &[i32]) -> i64
     ensures { λ r. ⌜ r ≡ total (place (now (numbers .entry))) (min (length (now (numbers .entry))) 64) ⌝ }
 {
     let n = pairs::fewer(numbers.len(), STRIP);
