@@ -3,13 +3,13 @@
 -- the rows alone, of which the third demand holds. Assumes nothing.
 use mathlib.Core.Path.{_≡_, refl, sym, ap, ap₂, _∙_, subst}
 use mathlib.Core.List.{List, [], _∷_, _++_}
-use Prim.Native.Nat.{ℕ, zero, suc, _+_, _*_, _/_, _%_, _≤_, _<_}
+use Prim.Native.Nat.{ℕ, zero, suc, _+_, _*_, _/_, _≤_, _<_}
 use native.Mathlib.Nat.{le-div-iff-mul-le, suc-mul}
 use native.Mathlib.Omega.{arith}
 use borrow.Author.Tests.{eqb-true, ltb-false, not-false}
 use lib.Dec.{eqb}
 use lib.IntN.{ℤ, pos, natAbs, _-ℤ_}
-use lib.ListN.{drop, getD, length, length-drop, length-take, List·getD-append, take}
+use lib.ListN.{drop, length, length-drop, length-take, List·getD-append, take}
 use lib.Seq.{ext-getD, getD-drop, getD-take}
 use Rattle.designs.specs.Demand.{Bounded}
 use Rattle.designs.specs.Designs.{Design}

@@ -7,7 +7,7 @@ use Rattle.designs.specs.Demand.{Bounded, Demand}
 use Rattle.designs.specs.Designs.{Design}
 use Rattle.designs.specs.Outcomes.{Outcome, accepted, refused}
 use Rattle.designs.specs.Products.{designOf}
-use Rattle.designs.specs.Rows.{Report, report}
+use Rattle.designs.specs.Rows.{report}
 use Rattle.patterns.specs.Blocks.{place}
 use Rattle.layers.specs.Layers.{layerOutcome, layerWritten, rowOf}
 use Rattle.layers.specs.declared.Layered.{Layered}

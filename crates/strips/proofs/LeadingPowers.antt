@@ -1,6 +1,6 @@
 -- One stage of design 3 by codes. Without its fraction the code of a number is that of its leading power, as the raised pattern is; and
 -- the product of a stage is the sum of two with such a power, which design 1 gives. Assumes nothing.
-use mathlib.Core.Path.{_≡_, refl, sym, ap, ap₂, _∙_}
+use mathlib.Core.Path.{_≡_, refl, sym, ap, _∙_}
 use Prim.Native.Nat.{ℕ, zero, suc, _+_, _-_, _*_, _/_, _%_, _^_, _≤_, _<_}
 use native.Mathlib.Omega.{arith}
 use mathlib.Core.Bool.{Bool, true, false}
@@ -15,7 +15,7 @@ use Rattle.designs.specs.Signs.{negative, restℤ, signedProduct}
 use Rattle.designs.proofs.Codes.{code-lt}
 use Rattle.designs.proofs.SignedLeft.{lead-le, rest-size, stage-parts}
 use Rattle.designs.proofs.Sizes.{size-sign}
-use Rattle.patterns.specs.Patterns.{fieldPower, lessPower, logPattern, powerOf, raisedOf}
+use Rattle.patterns.specs.Patterns.{fieldPower, logPattern, powerOf, raisedOf}
 use Rattle.patterns.proofs.ExponentField.{lead-at, power-raised, rest-of}
 use Rattle.patterns.proofs.Moved.{raised-at}
 use Rattle.patterns.proofs.Pair.{product-fits}

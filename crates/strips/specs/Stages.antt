@@ -1,7 +1,7 @@
 -- What the stages of design 3 keep of the pairs of a row and a strip. Definitions only.
 use mathlib.Core.Path.{_≡_}
 use mathlib.Core.List.{List}
-use Prim.Native.Nat.{ℕ, min, max, _+_, _^_, _≤_, _<_}
+use Prim.Native.Nat.{ℕ, min, max, _^_, _≤_, _<_}
 use lib.IntN.{ℤ, natAbs}
 use lib.ListN.{getD, length}
 use Rattle.designs.specs.Designs.{staged}

@@ -14,9 +14,7 @@ use crate::codes;
 use crate::products;
 use crate::sums;
 
-// The most stages, and the places for the codes of a strip: of its numbers, and of what each stage leaves of them.
-pub(crate) const MOST: usize = 16;
-
+// The places for the codes of a strip: of its numbers, and of what each of up to 16 stages leaves of them.
 pub(crate) const CODES: usize = 1088;
 
 // What a place for a product holds before the first stage. Its bytes differ, as those of `UNSET` do.

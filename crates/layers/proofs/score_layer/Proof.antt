@@ -1,6 +1,5 @@
 -- The layer is judged, and what is accepted is scored, by the design that is asked for, into as many places as there are rows. Assumes nothing.
 use borrow.Author.Needs.{needs}
-use mathlib.Core.Path.{sym, _∙_}
 use native.Mathlib.Omega.{arith}
 use Prim.Native.Nat.{_/_}
 use lib.ListN.{length, length-take}

@@ -1,9 +1,8 @@
 -- Without its fraction a pattern is that of the leading power. Assumes nothing.
-use mathlib.Core.Path.{_≡_, sym, ap, _∙_}
+use mathlib.Core.Path.{_≡_, ap, _∙_}
 use Prim.Native.Nat.{ℕ, _+_, _-_, _%_, _^_}
 use native.Mathlib.Omega.{arith}
 use lib.Bits.{bitAnd}
-use Rattle.patterns.specs.Patterns.{raisedOf}
 use Rattle.patterns.proofs.ExponentField.{power-raised}
 use Rattle.patterns.proofs.raising.lead.Statement.{statement}
 use Rattle.patterns.proofs.raising.lead.Tie as tie

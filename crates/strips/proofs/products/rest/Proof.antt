@@ -1,6 +1,6 @@
 -- The difference of the two floats is that of what is left, whose pattern it has. Assumes nothing.
 use borrow.Author.Needs.{needs}
-use mathlib.Core.Path.{_≡_, sym, ap, ap₂, _∙_, subst}
+use mathlib.Core.Path.{_≡_, ap, ap₂, _∙_}
 use mathlib.Core.Bool.{not}
 use Prim.Native.Nat.{ℕ, _^_, _≤_}
 use lib.Dec.{T}
