@@ -17,6 +17,9 @@ Inv-loop stages row part held n left₀ found₀ i₀ left found i = (length lef
 abbrev μ-loop : tie.MeasureT-loop
 μ-loop stages row part held n left₀ found₀ i₀ left found i = stages - i
 
+loop-holds : tie.Need-loop-holds Inv-loop μ-loop
+loop-holds c = (c .before .raise .kept .1 .1 .0, omega arith, c .before .raise .ensures, none-multiplied refl)
+
 multiply-requires : tie.Need-multiply-requires Inv-loop μ-loop
 multiply-requires c κs =
     let start = c .before .before .before .before .before .before .before .before in
@@ -48,7 +51,7 @@ sum-spec =
     (λ c κs. search needs)
     (λ c. search needs)
     (λ c κs. (omega (arith, c .before .fewer .ensures), omega (arith, c .before .fewer .ensures, c .before .before .pre .0 .few)))
-    (λ c. (c .before .raise .kept .1 .1 .0, omega arith, c .before .raise .ensures, none-multiplied refl))
+    loop-holds
     (λ c. sym (c .before .before .loop .inv .0))
     (λ c. sym (c .before .before .before .loop .inv .3 .size))
     multiply-requires
