@@ -1,6 +1,8 @@
 // Reads records from standard input and writes their transcript to standard output. Of an input that could not be read to its end
 // nothing is written. What failed, reading or writing, is one line on standard error: a program of the kit cannot set its exit status,
 // and `tools/bench`, which runs this one, makes a status of that line.
+#![tactic(auto)]
+
 mod streams;
 
 fn main() {

@@ -1,6 +1,8 @@
 // A block of pairs at once, as rows take them: the residues of the first pairs of two slices, into the first places of a block, and what these
 // pairs add up to. Any slices are taken. The pairs are as many as both have numbers and the block has places; by design 3 a pair takes two
 // places. The other places keep their contents. Every number here has 32 bits, so that the compiler takes four pairs at a time.
+#![tactic(auto)]
+
 ghost use Rattle.std.specs.Prelude.{◌≡◌, ◌+◌, ◌≤◌, ◌*ℤ◌, length};
 ghost use Rattle.designs.specs.Designs.{mitchell, nearest, staged, truncated, twice_truncated};
 ghost use Rattle.patterns.specs.Blocks.{Done, place, Small};

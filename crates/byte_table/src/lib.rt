@@ -1,5 +1,7 @@
 // Products of bytes by a table of logarithm codes (docs/SCOPE.md, "The byte table"): two look-ups, a sum and three shifts. Any two bytes
 // are accepted, and their product is design 1's.
+#![tactic(auto)]
+
 ghost use Rattle.std.specs.Prelude.{◌≡◌, ◌/◌, ◌<◌};
 ghost use Rattle.designs.specs.Codes.{scaled_product};
 ghost use Rattle.byte_table.specs.Table.{CodeTable, CodeSum, TableProduct};

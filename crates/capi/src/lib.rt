@@ -1,5 +1,7 @@
 // The C interface, which `include/highvane.h` declares: the proved operations under C names, each answer a struct by value. A field
 // `refusal` of 0 means accepted; where it is not 0 it is the number of the refusal and every other field is 0.
+#![tactic(auto)]
+
 ghost use Rattle.std.specs.Prelude.{◌≡◌, length};
 ghost use Rattle.designs.specs.Products.{unsigned_outcome, signed_outcome};
 ghost use Rattle.scaling.specs.Scaling.{scaled_outcome};

@@ -1,5 +1,7 @@
 // The layer, for C, as `include/highvane.h` declares it. It is a crate by itself, and so a file of the archive by itself, which leaves the others as
 // they are and goes into no program that scores no layer.
+#![tactic(auto)]
+
 ghost use Rattle.capi_layers.specs.Layers.{LayerStruct};
 
 #[repr(C)]

@@ -1,5 +1,7 @@
 // The rows of the designs by themselves, for C. Each is an answer of a row laid out for C, which the row by any design has too; that is in
 // another crate, and so in another file of the archive, since each is fastest where the compiler takes its row into it.
+#![tactic(auto)]
+
 ghost use Rattle.rows.specs.Answers.{given};
 ghost use Rattle.capi_rows.specs.Rows.{RowLaid, RowStruct};
 

@@ -1,4 +1,6 @@
 // Binary formats: each is a type with the constants that name its fields, and the functions that read them off a pattern.
+#![tactic(auto)]
+
 ghost use Rattle.std.specs.Prelude.{◌≡◌};
 ghost use Rattle.formats.specs.Formats.{binary32, exponent_field, fraction_field, is_finite, is_minus, is_subnormal, is_zero, one, quiet_nan};
 

@@ -1,5 +1,7 @@
 // The designs as total functions on magnitudes of up to 32 bits, whatever the width of the operands they come from. They are no
 // operations of docs/SCOPE.md: they judge nothing and refuse nothing. They shift and add; none multiplies.
+#![tactic(auto)]
+
 ghost use Rattle.std.specs.Prelude.{◌≡◌, ◌<◌};
 ghost use Rattle.designs.specs.Designs.{product, mitchell, nearest, staged};
 ghost use Rattle.kernels.specs.Steps.{NearPower};

@@ -1,5 +1,7 @@
 // Scoring a layer (docs/SCOPE.md, "Scoring a layer"): all rows of a weight store against one frame. Nothing is multiplied, and there are no
 // reports: of each row its score is written, which is that of the row scored alone.
+#![tactic(auto)]
+
 ghost use Rattle.std.specs.Prelude.{◌≡◌};
 ghost use Rattle.designs.specs.Outcomes.{first};
 ghost use Rattle.designs.specs.Products.{design_of};

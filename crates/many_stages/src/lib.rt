@@ -2,6 +2,8 @@
 // they leave of both numbers, so a design's product is the true one less that; and each of the two is a sum of products with signed powers of
 // two, which are additions to exponents. So the time hardly depends on s, and nothing is multiplied. The frame goes in strips of 128 numbers.
 // Any slices are taken, as `strips` takes them.
+#![tactic(auto)]
+
 ghost use Rattle.std.specs.Prelude.{◌≡◌};
 ghost use Rattle.designs.specs.Designs.{staged};
 ghost use Rattle.strips.specs.Strips.{Scored};

@@ -1,6 +1,8 @@
 // A pair of 16-bit numbers, a weight and a number of a frame: its true product, the size of that and of each number, whether that is below 0,
 // and whether the pair holds a zero. No branch of the compiled code depends on the numbers. And how many pairs there are, by the lengths of
 // their slices.
+#![tactic(auto)]
+
 ghost use Rattle.std.specs.Prelude.{◌≡◌, min, ◌-◌, ◌^◌, ◌<◌, nat_abs, ◌*ℤ◌};
 ghost use Rattle.designs.specs.Rows.{nonzero};
 ghost use Rattle.pairs.specs.Lengths.{pairs_of};

@@ -1,5 +1,7 @@
 // One path for a pair of 16-bit numbers: the residue of each design, for every pair, with no branch in the compiled code that depends
 // on the numbers. A binary32 pattern is a logarithm code above a sign, so the machine's casts take logarithms and powers.
+#![tactic(auto)]
+
 ghost use Rattle.std.specs.Prelude.{◌≡◌};
 ghost use Rattle.designs.specs.Designs.{mitchell, nearest, staged, truncated, twice_truncated};
 ghost use Rattle.designs.specs.Signs.{residue};

@@ -1,5 +1,7 @@
 // Products by the designs, unsigned and signed (docs/SCOPE.md, "Product, unsigned or signed"). Both operations take any numbers
 // and give the product or the number of the first refusal that applies.
+#![tactic(auto)]
+
 ghost use Rattle.std.specs.Prelude.{◌≡◌};
 ghost use Rattle.designs.specs.Products.{unsigned_outcome, signed_outcome};
 ghost use Rattle.products.specs.Answers.{unsigned_given, signed_given};

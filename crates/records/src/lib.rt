@@ -1,4 +1,6 @@
 // The first record of the bench's input, framed and evaluated (docs/SCOPE.md, "Reading records"). Any bytes and any place are accepted.
+#![tactic(auto)]
+
 ghost use Rattle.std.specs.Prelude.{◌≡◌};
 ghost use Rattle.records.specs.Frames.{frame};
 ghost use Rattle.records.specs.Records.{record_of, next_at};

@@ -1,5 +1,7 @@
 // The refusals of docs/SCOPE.md: the number of each, under the name that the C header gives it, and the tests that products and rows
 // share, in their order.
+#![tactic(auto)]
+
 mod products;
 mod rows;
 

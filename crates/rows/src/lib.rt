@@ -1,5 +1,7 @@
 // Scoring a row of weights against a frame (docs/SCOPE.md, "Scoring a row"). The report gives the score with its exact error, and the
 // residue of each pair goes to a slice that the caller lends.
+#![tactic(auto)]
+
 ghost use Rattle.std.specs.Prelude.{◌≡◌};
 ghost use Rattle.designs.specs.Rows.{empty_report};
 ghost use Rattle.rows.specs.Answers.{Scoring, report_of};

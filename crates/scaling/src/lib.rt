@@ -1,5 +1,7 @@
 // A row's score and T as binary64 numbers (docs/SCOPE.md, "Handing out a score"). The operation takes any numbers and gives both
 // values or the number of the first refusal that applies.
+#![tactic(auto)]
+
 ghost use Rattle.std.specs.Prelude.{◌≡◌};
 ghost use Rattle.scaling.specs.Scaling.{scaled_given, scaled_outcome, BothExact};
 

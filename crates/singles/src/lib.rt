@@ -1,5 +1,7 @@
 // The product of two binary32 patterns by Mitchell's approximation (docs/SCOPE.md, "Single product"). It takes any patterns and gives
 // the product or the number of the first refusal that applies.
+#![tactic(auto)]
+
 ghost use Rattle.std.specs.Prelude.{◌≡◌, ◌-◌, ◌≤◌, ◌<◌};
 ghost use Rattle.designs.specs.Outcomes.{accepted};
 ghost use Rattle.formats.specs.Formats.{binary32, hidden, largest_exponent, pattern};

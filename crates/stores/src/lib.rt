@@ -1,6 +1,8 @@
 // Rows of a weight store (docs/SCOPE.md, "Finding a row in a weight store"), in which each row is followed by the next and all have the
 // same number of columns. A slice has no room for a refusal's number, so there are two operations for a row: one says whether
 // there is such a row, and the other gives it. All take any store and any numbers.
+#![tactic(auto)]
+
 ghost use Rattle.std.specs.Prelude.{◌≡◌, length};
 ghost use Rattle.designs.specs.Outcomes.{first};
 ghost use Rattle.stores.specs.Stores.{shape_refusals, store_refusal};

@@ -1,6 +1,8 @@
 // Rows that are scored together against one frame, as a layer takes them in blocks. The frame goes in strips of 64 numbers: each number of a
 // strip is read once and made into codes, its logarithm among them, and then every row takes the strip. Nothing is multiplied. Any slices
 // are taken: the rows are as many as there are places for scores, each as long as the frame, and of the frame the first 4,096 numbers count.
+#![tactic(auto)]
+
 ghost use Rattle.designs.specs.Designs.{mitchell, nearest, staged, truncated, twice_truncated};
 ghost use Rattle.patterns.specs.Patterns.{clamped};
 ghost use Rattle.strips.specs.Stages.{stages_of};

@@ -1,5 +1,7 @@
 // The transcript of an input of the bench program (docs/SCOPE.md, "The bench program's records" and "Reading records"): a line for each
 // record, and the total. Any bytes are accepted.
+#![tactic(auto)]
+
 ghost use Rattle.records.specs.Records.{records_of};
 ghost use Rattle.transcripts.specs.Text.{Room, Put};
 ghost use Rattle.transcripts.specs.Lines.{none, printed};

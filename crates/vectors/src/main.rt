@@ -1,5 +1,7 @@
 // Runs the figures of docs/SCOPE.md, all pairs of the byte table and the vectors of standard input through the library, and prints
 // how many it compared and how many were wrong.
+#![tactic(auto)]
+
 mod field;
 mod fields;
 mod figures;
