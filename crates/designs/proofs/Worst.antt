@@ -1,6 +1,6 @@
 -- The worst of some numbers. One number more in front either is worse than the rest or leaves its worst one place further on, so the
 -- definitions give it; and as many more behind either keep it or have a worse one, which is how a loop finds it. Assumes nothing.
-use mathlib.Core.Path.{◌≡◌, refl, sym, ap, ◌∙◌}
+use mathlib.Core.Path.{◌≡◌, refl, sym, ap, subst, ◌∙◌}
 use Prim.Native.Nat.{ℕ, zero, suc, ◌+◌, ◌-◌, ◌≤◌, ◌<◌}
 use native.Mathlib.Nat.{le_of_lt, le_trans, max-eq_left, max-eq_right}
 use native.Mathlib.Omega.{arith}
@@ -52,7 +52,9 @@ worst-of [] =
 worst-of (z ∷ zs) =
     either-le (largest_size zs) (nat_abs z)
     (λ l. rw (max-eq_left l, eq-eqb (nat_abs z) (nat_abs z) refl) (worse z zs (worst-of zs) l))
-    (λ l. rw (max-eq_right (le_of_lt l), ne_eqb (nat_abs z) (largest_size zs) (λ e. omega arith)) (better z zs (worst-of zs) l))
+    (λ l. let largest : largest_size zs ≡ largest_size (z ∷ zs) = sym (max-eq_right (le_of_lt l)) in
+    subst (λ (n : ℕ). Worst (at (z ∷ zs)) (suc (length zs)) n (first_of_size n (z ∷ zs))) largest
+        (rw (ne_eqb (nat_abs z) (largest_size zs) (λ e. omega arith)) (better z zs (worst-of zs) l)))
 
 -- of the same numbers in other words
 pub worst-as : {y z : ℕ → ℤ} {n size place : ℕ} → ((k : ℕ) → k < n → y k ≡ z k) → Worst y n size place → Worst z n size place
