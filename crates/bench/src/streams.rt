@@ -6,7 +6,7 @@ ghost use Rattle.io.specs.Counts.{IsPrefixLen};
 use libc::{STDIN_FILENO, STDOUT_FILENO};
 
 // Whether the input was read to its end or filled the buffer, and how many of its bytes then stand at the start of the buffer.
-#[derive(Drop)]
+#[derive(Clone, Copy)]
 pub struct Read {
     pub is_whole: bool,
     pub bytes: usize,

@@ -7,7 +7,7 @@ use crate::BLOCK;
 
 // The sizes of the true products, and of these those of the products below 0 once more, each sum as high × 2^16 + low; how many pairs hold a
 // zero, since adding up a comparison with 0 takes an instruction less than adding up its opposite; and the largest size of a residue.
-#[derive(Drop)]
+#[derive(Clone, Copy)]
 pub struct BlockSums {
     pub sizes_high: u32,
     pub sizes_low: u32,

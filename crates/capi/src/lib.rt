@@ -13,14 +13,14 @@ ghost use Rattle.capi_rows.specs.Rows.{RowStruct};
 ghost use Rattle.capi.specs.Structs.{unsigned_struct, signed_struct, scaled_struct, single_struct};
 
 #[repr(C)]
-#[derive(Drop)]
+#[derive(Clone, Copy)]
 pub struct UnsignedProduct {
     pub product: u64,
     pub refusal: u32,
 }
 
 #[repr(C)]
-#[derive(Drop)]
+#[derive(Clone, Copy)]
 pub struct SignedProduct {
     pub product: i64,
     pub refusal: u32,
@@ -94,7 +94,7 @@ pub extern "C" fn highvane_row_refusal(store: &[i16], columns: usize, row: usize
 }
 
 #[repr(C)]
-#[derive(Drop)]
+#[derive(Clone, Copy)]
 pub struct Scaled {
     pub score: f64,
     pub magnitude_sum: f64,
@@ -121,7 +121,7 @@ pub extern "C" fn highvane_scale(score: i64, magnitude_sum: u64, shift: u32) -> 
 }
 
 #[repr(C)]
-#[derive(Drop)]
+#[derive(Clone, Copy)]
 pub struct SingleProduct {
     pub value: f32,
     pub refusal: u32,

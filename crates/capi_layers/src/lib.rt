@@ -5,7 +5,7 @@
 ghost use Rattle.capi_layers.specs.Layers.{LayerStruct};
 
 #[repr(C)]
-#[derive(Drop)]
+#[derive(Clone, Copy)]
 pub struct ScoredLayer {
     pub rows: usize,
     pub refusal: u32,

@@ -7,7 +7,7 @@ ghost use Rattle.capi_rows.specs.Rows.{RowLaid, RowStruct};
 
 // The report stands first, as it is, so that its fields are the struct's own.
 #[repr(C)]
-#[derive(Drop)]
+#[derive(Clone, Copy)]
 pub struct ScoredRow {
     pub report: rows::RowReport,
     pub refusal: u32,

@@ -5,7 +5,7 @@ ghost use Rattle.std.specs.Prelude.{◌≡◌};
 ghost use Rattle.formats.specs.Formats.{binary32, exponent_field, fraction_field, is_finite, is_minus, is_subnormal, is_zero, one, quiet_nan};
 
 // IEEE 754 binary32, by its pattern.
-#[derive(Drop)]
+#[derive(Clone, Copy)]
 pub struct Binary32 {
     pub bits: u32,
 }

@@ -13,7 +13,7 @@ ghost use Rattle.layers.specs.Layers.{layer_refusals};
 mod by_blocks;
 
 // How many rows there are, or the number of the refusal.
-#[derive(Drop)]
+#[derive(Clone, Copy)]
 pub enum Layered {
     Rows(usize),
     Refused(u32),

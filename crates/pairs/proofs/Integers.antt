@@ -35,7 +35,7 @@ sized (negsuc n) h = record { sfits = omega arith }
 
 -- a callee's result
 pub read_back : {x y : ℤ} → mag x < 2 ^ 31 → x ≡ y → to_z w32 (of_z w32 x) ≡ y
-read_back h e = to_z-of_z (record { sfits = h }) ∙ e
+read_back h e = to_z-of_z {w = w32} (record { sfits = h }) ∙ e
 
 pub true-size : {w x : ℤ} → SFits w16 w → SFits w16 x → nat_abs (w *ℤ x) ≤ 2 ^ 30
 true-size {w} {x} hw hx = omega (arith, size-true w x, mul-le-mul (size16 hw) (size16 hx))

@@ -10,14 +10,14 @@ mod by_design;
 mod operands;
 
 // An unsigned product, or the number of the refusal.
-#[derive(Drop)]
+#[derive(Clone, Copy)]
 pub enum Unsigned {
     Value(u64),
     Refused(u32),
 }
 
 // A signed product, or the number of the refusal.
-#[derive(Drop)]
+#[derive(Clone, Copy)]
 pub enum Signed {
     Value(i64),
     Refused(u32),

@@ -14,7 +14,7 @@ pub type Answer = products::Signed;
 
 // Which bytes are a record, before anything is computed: its kind, the refusal of the reading or 0, and how many bytes it takes.
 // One that the reading refuses takes all that is left.
-#[derive(Drop)]
+#[derive(Clone, Copy)]
 pub struct Frame {
     pub kind: u8,
     pub refusal: u32,
@@ -22,7 +22,7 @@ pub struct Frame {
 }
 
 // A record that was read: its kind, its answer, and how many bytes it takes.
-#[derive(Drop)]
+#[derive(Clone, Copy)]
 pub struct Entry {
     pub kind: u8,
     pub answer: Answer,
@@ -30,7 +30,7 @@ pub struct Entry {
 }
 
 // What stands at a place: a record, or nothing where the input has ended.
-#[derive(Drop)]
+#[derive(Clone, Copy)]
 pub enum Reading {
     Found(Entry),
     End,

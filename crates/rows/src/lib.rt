@@ -17,7 +17,7 @@ use crate::sums::report_of;
 // The report of a row: `magnitude_sum` is the scope's T, and `nonzero_pairs` its n. `largest_residue` is the largest size of a residue, and
 // `largest_place` the first place that has it. It is laid out as C has it.
 #[repr(C)]
-#[derive(Drop)]
+#[derive(Clone, Copy)]
 pub struct RowReport {
     pub score: i64,
     pub true_sum: i64,
@@ -46,7 +46,7 @@ impl RowReport {
 }
 
 // The report of a row, or the number of the refusal.
-#[derive(Drop)]
+#[derive(Clone, Copy)]
 pub enum Scored {
     Report(RowReport),
     Refused(u32),

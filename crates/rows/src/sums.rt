@@ -7,7 +7,7 @@ use crate::worst::Worst;
 use crate::{RowReport, worst};
 
 // The sums of some pairs, and the worst of them. Counted are those that hold a zero, as in a block.
-#[derive(Drop)]
+#[derive(Clone, Copy)]
 pub(crate) struct Sums {
     true_sum: i64,
     error: i64,

@@ -3,7 +3,7 @@
 ghost use Rattle.std.specs.Prelude.{◌≡◌, cond, ℕ, min, ◌+◌, ◌^◌, ◌≤◌, ◌<◌, eqb, ℤ, nat_abs, length};
 ghost use Rattle.rows.specs.Worst.{Comparable, First, WorstOf, with_residue};
 
-#[derive(Drop)]
+#[derive(Clone, Copy)]
 pub(crate) struct Worst {
     pub(crate) size: u64,
     pub(crate) place: usize,

@@ -15,14 +15,14 @@ const HIGHEST_SCORE: i64 = 1 << 53;
 const LARGEST_SUM: u64 = 1 << 53;
 
 // The score and T, each divided by 2^shift. `magnitude_sum` is the scope's T.
-#[derive(Drop)]
+#[derive(Clone, Copy)]
 pub struct Quotients {
     pub score: f64,
     pub magnitude_sum: f64,
 }
 
 // Both values, or the number of the refusal.
-#[derive(Drop)]
+#[derive(Clone, Copy)]
 pub enum Scaled {
     Values(Quotients),
     Refused(u32),

@@ -11,14 +11,14 @@ ghost use Rattle.singles.specs.Answers.{SingleProduct, as_single, pattern_given,
 use formats::Binary32;
 
 // A product, or the number of the refusal.
-#[derive(Drop)]
+#[derive(Clone, Copy)]
 pub enum Single {
     Value(f32),
     Refused(u32),
 }
 
 // The pattern of a product, or the number of the refusal.
-#[derive(Drop)]
+#[derive(Clone, Copy)]
 pub enum Pattern {
     Value(u32),
     Refused(u32),

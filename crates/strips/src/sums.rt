@@ -13,7 +13,7 @@ ghost use Rattle.strips.specs.Strips.{Summed};
 use crate::{STRIP, products};
 
 // A sum, as high × 2^16 + low.
-#[derive(Drop)]
+#[derive(Clone, Copy)]
 pub struct Halves {
     pub high: i32,
     pub low: i32,

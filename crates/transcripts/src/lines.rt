@@ -6,7 +6,7 @@ ghost use Rattle.transcripts.specs.Lines.{line, total_line, counted};
 ghost use Rattle.transcripts.specs.Answers.{tally_given};
 
 // How many records were accepted, and how many refused.
-#[derive(Drop)]
+#[derive(Clone, Copy)]
 pub(crate) struct Tally {
     pub(crate) accepted: u64,
     pub(crate) refused: u64,

@@ -10,7 +10,7 @@ pub const I16: u64 = 32767;
 pub const I64: u64 = 9223372036854775807;
 
 // The code of a number, and where the next field starts.
-#[derive(Drop)]
+#[derive(Clone, Copy)]
 pub struct Field {
     pub code: u64,
     pub next: usize,

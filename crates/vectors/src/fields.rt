@@ -2,7 +2,7 @@
 use crate::field::{Field, field_at};
 
 // The last seven numbers that were read, of which `g` is the very last, and where the next field starts.
-#[derive(Drop)]
+#[derive(Clone, Copy)]
 pub struct Fields {
     pub a: u64,
     pub b: u64,

@@ -114,7 +114,7 @@ fn are_given(
 }
 
 // What a line says is due: REFUSAL SCORE TRUE ERROR T N, and LARGEST PLACE and how many residues.
-#[derive(Drop)]
+#[derive(Clone, Copy)]
 pub struct Due {
     pub first: Fields,
     pub last: Fields,

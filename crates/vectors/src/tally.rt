@@ -1,6 +1,6 @@
 // How many comparisons were made, and how many of them came out wrong.
 
-#[derive(Drop)]
+#[derive(Clone, Copy)]
 pub struct Tally {
     pub compared: u64,
     pub wrong: u64,
