@@ -2,7 +2,7 @@
 -- such fields; and a float of a format with a whole value is the float of that number, read either way. Assumes nothing.
 use Rattle.std.proofs.Common.{◌≡◌, ℕ, zero, suc, ◌+◌, ◌*◌, ◌/◌, ◌%◌, ◌^◌, ◌<◌, ◌≤◌, Bool, true, false, not, T, ℤ, pos, negsuc, nat_abs, sym, refl, ap, ◌∙◌, subst, mul-pos, arith, le→leb, lt→ltb, pow_pos, pow-add}
 use lib.Signed.{mag}
-use lib.Ieee.{Float, Format, binary32, binary64, fin, fits, in_float, in_signed, is_nan, of_bits, of_int, prec, to_bits, to_signed}
+use lib.Ieee.{Float, Format, binary32, binary64, fin, inf, nan, fits, in_float, in_signed, is_nan, of_bits, of_int, prec, to_bits, to_signed}
 use lib.Ieee.Back.{negative_back, positive_back, round_whole, whole_unique}
 use lib.Ieee.Bits.{of_bits-fits}
 use lib.Ieee.Exact.{HasValue}
@@ -29,6 +29,8 @@ signed-value f true (suc n) p l = int-value f (negsuc n) l
 valued : (x : Float) (s : Bool) (a c : ℕ) → HasValue x s a c → T (not (is_nan x))
 unfolding is_nan
 valued (fin t m e) s a c v = tt
+valued nan s a c v = elim v [ ]
+valued (inf t) s a c v = elim v [ ]
 
 pub int-no-nan : (f : Format) (z : ℤ) → nat_abs z ≤ 2 ^ prec f → T (not (is_nan (of_int f z)))
 int-no-nan f z l = valued (of_int f z) (negative z) (nat_abs z) 1 (int-value f z l)

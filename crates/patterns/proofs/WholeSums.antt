@@ -1,7 +1,7 @@
 -- Sums and differences of floats of whole numbers. Each is the sum of the numbers, rounded; and a number of at most 24 bits, or 2^24, times a
 -- power of two is a binary32, so that nothing is rounded off. Assumes nothing.
 use Rattle.std.proofs.Common.{◌≡◌, ℕ, zero, suc, ◌+◌, ◌-◌, ◌*◌, ◌^◌, ◌<◌, ◌≤◌, Bool, true, false, cond, not, ◌&&◌, ltb, ℤ, pos, negsuc, ◌+ℤ◌, ◌-ℤ◌, ◌*ℤ◌, neg_ℤ, nat_abs, sym, refl, ap, ◌∙◌, subst, ap₂, le_trans, le_of_eq, mul-le-mul_right, add-mul, mul-le-mul, le_antisymm, mul-pos, zero-mul, arith, pow_pos, pow_mono, pow-add, le-ltb, lt-ltb}
-use lib.Ieee.{add, binary32, binary64, down, fin, Float, Format, neg, of_int, round, sub, sum, up}
+use lib.Ieee.{add, binary32, binary64, down, fin, inf, nan, Float, Format, neg, of_int, round, sub, sum, up}
 use lib.Ieee.Back.{whole_unique}
 use lib.Ieee.Exact.{HasValue, round_exact}
 use lib.Ieee.Fits.{down_pos, fits_widens, of_int-fits}
@@ -56,6 +56,10 @@ added f (fin s' m e) (fin t' n d) s t a b vx vy =
   where
     c : ℕ
     c = down e * down d
+added f nan y s t a b vx vy = elim vx [ ]
+added f (inf _) y s t a b vx vy = elim vx [ ]
+added f (fin s' m e) nan s t a b vx vy = elim vy [ ]
+added f (fin s' m e) (inf _) s t a b vx vy = elim vy [ ]
 
 -- the sum of an integer and a number with a sign, which may be 0 with a minus
 rounded : (f : Format) (u : ℤ) (t : Bool) (b : ℕ) → sum f (negative u) (nat_abs u) t b 1 ≡ of_int f (u +ℤ with_sign t b)
@@ -89,6 +93,8 @@ module _ (f : Format) (x y : Float) (u v : ℤ) (vx : HasValue x (negative u) (n
     where
       turned : (y : Float) → HasValue y (negative v) (nat_abs v) 1 → HasValue (neg y) (not (negative v)) (nat_abs v) 1
       turned (fin t m e) vy = (ap not vy.0, vy.1)
+      turned nan vy = elim vy [ ]
+      turned (inf _) vy = elim vy [ ]
 
       other_sign : (v : ℤ) → with_sign (not (negative v)) (nat_abs v) ≡ neg_ℤ v
       other_sign (pos n) = refl
