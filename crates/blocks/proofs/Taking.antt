@@ -37,7 +37,7 @@ pub record Read (D : Design) (w x r : ℤ) : Type 0 where
 
 module _ {D : Design} {w x r : ℤ} (pair : Read D w x r) where
   read : to_z w32 (of_z w32 r) ≡ residue D w x
-  read = read_back pair.ok (pair.is ∙ ap₂ (residue D) (to_z-of_z (record { sfits = pair.weight })) (to_z-of_z (record { sfits = pair.number })))
+  read = read_back pair.ok (pair.is ∙ ap₂ (residue D) (to_z-of_z {w = w16} (record { sfits = pair.weight })) (to_z-of_z {w = w16} (record { sfits = pair.number })))
 
   small : KeepsBit D → nat_abs (to_z w32 (of_z w32 r)) < 2 ^ 31
   small keeps = rw read (residue-size D keeps w x (nat_abs-le w pair.weight) (nat_abs-le x pair.number))
