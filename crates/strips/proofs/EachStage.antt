@@ -58,7 +58,7 @@ module _ {n : ℕ} {numbers : List ℤ} {before : List ℕ} where
   next-raised {j = j} r h room fits e =
       record {
         inside = omega arith;
-        done = next-filled r.done (omega arith) (e ∙ ap raised_of (to_z-of_z (record { sfits = fits })));
+        done = next-filled r.done (omega arith) (e ∙ ap raised_of (to_z-of_z {w = w16} (record { sfits = fits })));
         small = λ k l. either_lt k j (r.small k) (λ m. here k (omega arith));
       }
     where

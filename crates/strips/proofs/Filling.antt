@@ -26,7 +26,7 @@ module _ {f : ℤ → ℕ} {part : List ℤ} {before : List ℕ} where
       }
     where
       here : (k : ℕ) → k ≡ j → (get_or (set codes j q) k 0 ≡ f (place part k)) × (nat_abs (place part k) ≤ 2 ^ 15)
-      here k m = rw m (get_or-set_same codes j q 0 (omega (arith, filled.size)) ∙ e ∙ ap f (to_z-of_z (record { sfits = fits })), nat_abs-le (place part j) fits)
+      here k m = rw m (get_or-set_same codes j q 0 (omega (arith, filled.size)) ∙ e ∙ ap f (to_z-of_z {w = w16} (record { sfits = fits })), nat_abs-le (place part j) fits)
 
   pub all : {codes : List ℕ} {j : ℕ} → Filled f part before codes j → length part ≤ j → length part ≤ 64 → Coded f part codes
   all filled h few = record { few = few; at = λ k l. filled.at k (omega arith) }
