@@ -1,27 +1,24 @@
 // Reads records from standard input and writes their transcript to standard output. Of an input that could not be read to its end
-// nothing is written. What failed, reading or writing, is one line on standard error: a program of the kit cannot set its exit status,
-// and `tools/bench`, which runs this one, makes a status of that line.
+// nothing is written. What failed, reading or writing, is one line on standard error: the program ends with status 0 all the same, and
+// `tools/bench`, which runs this one, makes a status of that line.
 #![tactic(auto)]
 
 mod streams;
 
-fn main() {
+fn main(rt: HostRuntime) {
     // One byte past the limit is enough to tell an input that is too long.
     let mut input = [0u8; transcripts::INPUT_MAX + 1];
-    let read = streams::read_input(&mut input);
-    if !read.is_whole {
-        os::fail(b"bench: reading standard input");
-        return;
+    match streams::read_input(&mut rt.stdin(), &mut input) {
+        Ok(n) => print(&rt, &input[..n]),
+        Err(error) => streams::say(&rt, "reading standard input", error),
     }
-    let n = read.bytes;
-    print(&input[..n]);
 }
 
-fn print(input: &[u8]) {
+fn print(rt: &HostRuntime, input: &[u8]) {
     let mut out = [0u8; transcripts::TRANSCRIPT_MAX];
     let k = transcripts::transcript(input, &mut out);
-    let is_written = streams::write_output(&out[..k]);
-    if !is_written {
-        os::fail(b"bench: writing standard output");
+    match streams::write_output(rt, &out[..k]) {
+        Ok(()) => {}
+        Err(error) => streams::say(rt, "writing standard output", error),
     }
 }

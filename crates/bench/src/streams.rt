@@ -1,71 +1,92 @@
-// Standard input to its end and standard output whole, by calls of C that may move fewer bytes than they are asked to, or none where
-// a signal comes first. A proved loop has to end, and nothing says that signals do: so each loop counts its calls down, from a number
-// that no run uses up.
+// Standard input to its end and standard output whole, by calls that may move fewer bytes than they are asked to, or none where a signal
+// comes first. A proved loop has to end, and nothing says that signals do: so each loop makes at most as many calls as no run uses up.
+ghost use Rattle.std.specs.Prelude.{IfOk};
 ghost use Rattle.io.specs.Counts.{IsPrefixLen};
 
-use libc::{STDIN_FILENO, STDOUT_FILENO};
+use std::fs::File;
+use std::io::{Error, ErrorKind, Read, Write};
+use std::{fs, io};
 
-// Whether the input was read to its end or filled the buffer, and how many of its bytes then stand at the start of the buffer.
-#[derive(Clone, Copy)]
-pub struct Read {
-    pub is_whole: bool,
-    pub bytes: usize,
-}
+// Standard output as a file, where it is one.
+const OUTPUT: &str = "/dev/stdout";
 
-const FAILED: Read = Read {
-    is_whole: false,
-    bytes: 0,
-};
-
-// Reads until the input ends or the buffer is full. Where a read failed, errno says why.
-pub fn read_input(buffer: &mut [u8]) -> Read
-    ensures { IsPrefixLen result.bytes buffer.new }
+// Reads until the input ends or the buffer is full, and hands back how many of its bytes then stand at the start of the buffer.
+pub fn read_input<R: Read>(input: &mut R, buffer: &mut [u8]) -> io::Result<usize>
+    ensures { IfOk result (λ n. IsPrefixLen n buffer.new) }
 {
     let mut done = 0;
-    let mut calls = u64::MAX;
-    while done < buffer.len() {
-        let got = libc::read(STDIN_FILENO, &mut buffer[done..]);
-        if got == 0 {
-            break;
+    for _ in 0..u64::MAX {
+        if done >= buffer.len() {
+            return Ok(done);
         }
-        if is_failure(got) {
-            return FAILED;
+        match input.read(&mut buffer[done..]) {
+            Ok(0) => return Ok(done),
+            Ok(n) => done += n,
+            Err(error) => retried(error)?,
         }
-        if calls == 0 {
-            return FAILED;
-        }
-        done += io::count(got, &buffer[done..]);
-        calls -= 1;
     }
-    Read {
-        is_whole: true,
-        bytes: done,
-    }
+    Err(Error::from(ErrorKind::Interrupted))
 }
 
-// Writes all of a text and closes standard output, since a file may say only then that it had no room. Where it answers false, errno
-// says why.
-pub fn write_output(text: &[u8]) -> bool {
+// Writes all of a text to standard output, and has it stored.
+pub fn write_output(rt: &HostRuntime, text: &[u8]) -> io::Result<()> {
+    write_all(&mut rt.stdout(), text)?;
+    store(rt)
+}
+
+fn write_all<W: Write>(output: &mut W, text: &[u8]) -> io::Result<()> {
     let mut done = 0;
-    let mut calls = u64::MAX;
-    while done < text.len() {
-        let put = libc::write(STDOUT_FILENO, &text[done..]);
-        if is_failure(put) | (put == 0) {
-            return false;
+    for _ in 0..u64::MAX {
+        if done >= text.len() {
+            return Ok(());
         }
-        if calls == 0 {
-            return false;
+        match output.write(&text[done..]) {
+            Ok(0) => return Err(Error::from(ErrorKind::WriteZero)),
+            Ok(n) => done += n,
+            Err(error) => retried(error)?,
         }
-        done += io::count(put, &text[done..]);
-        calls -= 1;
     }
-    libc::close(STDOUT_FILENO) == 0
+    Err(Error::from(ErrorKind::Interrupted))
 }
 
 // A call that a signal interrupted before it moved a byte is made again.
-fn is_failure(answer: isize) -> bool {
-    if answer < 0 {
-        return os::errno() != libc::EINTR;
+fn retried(error: Error) -> io::Result<()> {
+    if error.kind() == ErrorKind::Interrupted {
+        return Ok(());
     }
-    false
+    Err(error)
+}
+
+// A file may say only when it is stored that it had no room. A pipe or a terminal stores nothing, and what cannot be opened again is left.
+fn store(rt: &HostRuntime) -> io::Result<()> {
+    if !is_file(rt) {
+        return Ok(());
+    }
+    match File::options().write(true).open(rt, OUTPUT) {
+        Ok(file) => file.sync_all(),
+        Err(_) => Ok(()),
+    }
+}
+
+fn is_file(rt: &HostRuntime) -> bool {
+    match fs::metadata(rt, OUTPUT) {
+        Ok(found) => found.is_file(),
+        Err(_) => false,
+    }
+}
+
+// One line on standard error, with the system's words for the error. Where even that cannot be written nothing is left to say.
+pub fn say(rt: &HostRuntime, what: &str, error: Error) {
+    let _ = match format!(in rt.alloc(); "{error}") {
+        Ok(text) => eprintln!(rt; "bench: {what}: {}", without_number(&text)),
+        Err(_) => eprintln!(rt; "bench: {what}: {error}"),
+    };
+}
+
+// The library adds the error's number to the system's words.
+fn without_number(text: &str) -> &str {
+    match text.rsplit_once(" (os error ") {
+        Some((words, _)) => words,
+        None => text,
+    }
 }

@@ -1,4 +1,5 @@
 // Reads a field of a line, a space and a decimal number. A number below zero is read as its code, which is 2^64 more.
+use crate::slices;
 
 // A type by its largest number. The signed ones have one more number below zero than above.
 pub const U32: u64 = 4294967295;
@@ -39,7 +40,7 @@ pub fn field_at(line: &[u8], start: usize, largest: u64) -> Field {
     if line[start] != b' ' {
         return lost();
     }
-    let end = bytes::scan::find(line, start + 1, line.len(), b' ');
+    let end = slices::find(line, start + 1, b' ');
     number(&line[start + 1..end], largest, end)
 }
 

@@ -1,5 +1,6 @@
 // Goes through a text line by line and counts the lines of a group. The letter that a line starts with says of what kind it is.
 use crate::kinds::is_right;
+use crate::slices;
 use crate::tally::Tally;
 
 pub const PRODUCTS: u8 = 0;
@@ -28,7 +29,7 @@ pub fn count(text: &[u8], group: u8) -> Tally {
     let mut tally = Tally::new();
     let mut start = 0;
     while start < text.len() {
-        let end = bytes::scan::find(text, start, text.len(), b'\n');
+        let end = slices::find(text, start, b'\n');
         tally = with_line(tally, &text[start..end], group);
         start = end + 1;
     }
