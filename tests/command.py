@@ -52,29 +52,27 @@ def try_inputs(folder):
 
 
 def try_building(folder):
-    """In a copy of the tools, so that nothing of target/ is touched."""
+    """In a copy of the tools, so that nothing that was built is touched."""
     copy = folder / 'copy'
     shutil.copytree(ROOT / 'tools', copy / 'tools')
     (copy / 'crates.txt').touch()
-    (copy / 'target/stamp').mkdir(parents=True)
+    (copy / 'crates/bench').mkdir(parents=True)
     command = [copy / 'tools/bench', EXAMPLE]
-    # where the program is missing rt must not find its note, by which it would have nothing to do
-    (copy / 'target/stamp/bench').touch()
-    stand_in(folder, f'[ "$*" = "check bench" ] && [ ! -e target/stamp/bench ] && mkdir target/bin && cp {PROGRAM} target/bin && sleep 1.2')
+    stand_in(folder, f'[ "$*" = "run" ] && mkdir out && cp {PROGRAM} out && sleep 1.2')
     status, wrote, said = ran(command)
     progress = 'bench: proving and building where that is due; from nothing .*\nbench: all is proved and built, after [0-9]+ s\n'
     expect('a missing program', (status, wrote, bool(re.fullmatch(progress, said)) or said), (0, LINES, True))
     stand_in(folder, 'seq 100; echo not proved >&2; exit 3')
     expect('rt fails', ran(command),
-           (1, b'', ''.join(f'{line}\n' for line in range(82, 101)) + 'not proved\nbench: rt check bench ended with status 3\n'))
+           (1, b'', ''.join(f'{line}\n' for line in range(82, 101)) + 'not proved\nbench: rt run ended with status 3\n'))
     stand_in(folder, 'mkdir alone && sleep 0.1 && rmdir alone')
     beside = [subprocess.Popen(command, stdout=subprocess.PIPE, stderr=subprocess.DEVNULL) for _ in range(3)]
     expect('three at once', [(process.communicate()[0], process.returncode) for process in beside], [(LINES, 0)] * 3)
     stand_in(folder)
-    (copy / 'target/bin/bench').write_text('#!/bin/sh\nkill -SEGV $$\n')
-    expect('a program that is ended', ran(command), (1, b'', 'bench: target/bin/bench was ended by SIGSEGV\n'))
-    (copy / 'target/bin/bench').unlink()
-    expect('rt makes no program', ran(command), (1, b'', 'bench: rt check bench made no target/bin/bench\n'))
+    (copy / 'crates/bench/out/bench').write_text('#!/bin/sh\nkill -SEGV $$\n')
+    expect('a program that is ended', ran(command), (1, b'', 'bench: crates/bench/out/bench was ended by SIGSEGV\n'))
+    (copy / 'crates/bench/out/bench').unlink()
+    expect('rt makes no program', ran(command), (1, b'', 'bench: rt run made no crates/bench/out/bench\n'))
     expect('no rt', ran([sys.executable, copy / 'tools/bench.py', EXAMPLE], before='export PATH=/nowhere;'),
            (1, b'', 'bench: rt, which proves and builds the bench, cannot be run: No such file or directory\n'))
 

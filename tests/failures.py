@@ -89,8 +89,10 @@ def try_interrupts(folder):
     expect('interrupted', found, (LONG_LINES, b'', 0))
     expect('interrupted reads and writes, and short writes', set(notes.read_text()), set('rws'))
     # no shell starts it: a timer outlives an exec, and the handler does not
-    done = subprocess.run([PROGRAM], input=SAMPLE, capture_output=True, timeout=60, env={**preloaded, 'CLOSE_FAILS': '1'})
-    expect('a close that fails', (done.returncode, done.stdout, done.stderr), (0, LINES, b'bench: writing standard output: Disk quota exceeded\n'))
+    file = folder / 'stored'
+    with file.open('wb') as output:
+        done = subprocess.run([PROGRAM], input=SAMPLE, stdout=output, stderr=subprocess.PIPE, timeout=60, env={**preloaded, 'SYNC_FAILS': '1'})
+    expect('a file that is not stored', (done.returncode, file.read_bytes(), done.stderr), (0, LINES, b'bench: writing standard output: Disk quota exceeded\n'))
 
 
 def try_records(folder):

@@ -1,6 +1,6 @@
 /* Loaded before the C library into the bench program, for tests/failures.py. A timer interrupts its calls every millisecond, and no
    interrupted call is started again; each interrupted read, interrupted write and short write is noted as a letter in the file that
-   NOTES names. Where CLOSE_FAILS is set, standard output cannot be closed. */
+   NOTES names. Where SYNC_FAILS is set, no file can be stored. */
 #define _GNU_SOURCE
 #include <errno.h>
 #include <fcntl.h>
@@ -49,10 +49,10 @@ ssize_t write(int descriptor, const void *buffer, size_t size) {
     return put;
 }
 
-int close(int descriptor) {
-    if (descriptor == STDOUT_FILENO && getenv("CLOSE_FAILS") != NULL) {
+int fsync(int descriptor) {
+    if (getenv("SYNC_FAILS") != NULL) {
         errno = EDQUOT;
         return -1;
     }
-    return syscall(SYS_close, descriptor);
+    return syscall(SYS_fsync, descriptor);
 }

@@ -5,7 +5,7 @@
 FILE.txt is a text of records, written as `python3 tools/records.py --help` says. Any other FILE holds records in their binary form, and
 so does standard input, which is read where no FILE is named or FILE is -. With --text either is a text, whatever its name.
 
-The bench is proved and built first where its sources have changed, by `rt check bench`; that takes a minute or two from nothing.
+The bench is proved and built first where its sources have changed, by `rt run` in its folder; that takes some minutes from nothing.
 
 Standard output gets the transcript and nothing else. The exit status is 0 where the whole input was read and the whole transcript was
 written; a refused record is a line of the transcript and no failure. Otherwise it is 1, and standard error says why.
@@ -28,7 +28,8 @@ import records
 from streams import INPUT, TOOL, Failure, opened, run, say, write
 
 ROOT = pathlib.Path(__file__).resolve().parent.parent
-PROGRAM = ROOT / 'target/bin/bench'
+CRATE = ROOT / 'crates/bench'
+PROGRAM = CRATE / 'out/bench'
 # more seconds than rt takes where nothing is due, and how many lines are shown of what it said where it fails
 PATIENCE, SHOWN = 1, 20
 
@@ -50,33 +51,29 @@ def alone():
 def prove():
     """Prove and build what is due. rt knows, by the contents of every file that the bench is built on."""
     with alone(), tempfile.TemporaryFile() as said:
-        if not PROGRAM.exists():
-            # rt goes by this note alone, and does not look for the program
-            (ROOT / 'target/stamp/bench').unlink(missing_ok=True)
         start = time.monotonic()
         status = check(said)
         said.seek(0)
         if status != 0:
             lines = said.read().decode(errors='replace').splitlines()
-            raise Failure(*lines[-SHOWN:], f'{TOOL}: rt check bench {ending(status)}')
+            raise Failure(*lines[-SHOWN:], f'{TOOL}: rt run {ending(status)}')
         if time.monotonic() - start > PATIENCE:
             say(f'{TOOL}: all is proved and built, after {time.monotonic() - start:.0f} s')
     if not PROGRAM.exists():
-        raise Failure(f'{TOOL}: rt check bench made no {PROGRAM.relative_to(ROOT)}')
+        raise Failure(f'{TOOL}: rt run made no {PROGRAM.relative_to(ROOT)}')
 
 
 def check(said):
-    """The status of rt check bench. It has a process group of its own, which ends with this command."""
+    """The status of rt run, which proves and builds the bench and runs it on no input. It has a process group of its own, which ends with this command."""
     try:
-        words = ['rt', 'check', 'bench']
-        rt = subprocess.Popen(words, cwd=ROOT, stdin=subprocess.DEVNULL, stdout=said, stderr=said, start_new_session=True)
+        rt = subprocess.Popen(['rt', 'run'], cwd=CRATE, stdin=subprocess.DEVNULL, stdout=said, stderr=said, start_new_session=True)
     except OSError as problem:
         raise Failure(f'{TOOL}: rt, which proves and builds the bench, cannot be run: {problem.strerror}')
     try:
         try:
             return rt.wait(PATIENCE)
         except subprocess.TimeoutExpired:
-            say(f'{TOOL}: proving and building where that is due; from nothing it takes a minute or two')
+            say(f'{TOOL}: proving and building where that is due; from nothing it takes some minutes')
             return rt.wait()
     except BaseException:
         with contextlib.suppress(ProcessLookupError):
