@@ -1,5 +1,5 @@
 -- Each entry of a table of codes is the code of its place, which is below 8 × 128: the rule that holds of the whole table is carried to its
--- places. Assumes nothing.
+-- places.
 use mathlib.Core.Path.{◌≡◌}
 use mathlib.Core.List.{List}
 use Prim.Native.Nat.{ℕ, ◌<◌}

@@ -1,5 +1,5 @@
-// The rows of the designs by themselves, for C. Each is an answer of a row laid out for C, which the row by any design has too; that is in
-// another crate, and so in another file of the archive, since each is fastest where the compiler takes its row into it.
+// The rows of the designs by themselves, laid out for C, as the row by any design is too. The crate capi_rows_c exports them, and the crate
+// capi that one: so they are in different files of the archive, since each is fastest where the compiler takes its row into it.
 #![tactic(auto)]
 
 ghost use Rattle.rows.specs.Answers.{given};
@@ -26,8 +26,7 @@ pub fn laid(answer: rows::Scored) -> ScoredRow
     }
 }
 
-#[unsafe(no_mangle)]
-pub extern "C" fn highvane_score_row_mitchell(
+pub fn highvane_score_row_mitchell(
     setting: u32,
     weights: &[i16],
     frame: &[i16],
@@ -38,8 +37,7 @@ pub extern "C" fn highvane_score_row_mitchell(
     laid(rows::score_row_mitchell(setting, weights, frame, residues))
 }
 
-#[unsafe(no_mangle)]
-pub extern "C" fn highvane_score_row_nearest(
+pub fn highvane_score_row_nearest(
     setting: u32,
     weights: &[i16],
     frame: &[i16],
@@ -50,8 +48,7 @@ pub extern "C" fn highvane_score_row_nearest(
     laid(rows::score_row_nearest(setting, weights, frame, residues))
 }
 
-#[unsafe(no_mangle)]
-pub extern "C" fn highvane_score_row_staged(
+pub fn highvane_score_row_staged(
     setting: u32,
     weights: &[i16],
     frame: &[i16],
@@ -62,8 +59,7 @@ pub extern "C" fn highvane_score_row_staged(
     laid(rows::score_row_staged(setting, weights, frame, residues))
 }
 
-#[unsafe(no_mangle)]
-pub extern "C" fn highvane_score_row_truncated(
+pub fn highvane_score_row_truncated(
     setting: u32,
     weights: &[i16],
     frame: &[i16],
@@ -74,8 +70,7 @@ pub extern "C" fn highvane_score_row_truncated(
     laid(rows::score_row_truncated(setting, weights, frame, residues))
 }
 
-#[unsafe(no_mangle)]
-pub extern "C" fn highvane_score_row_twice_truncated(
+pub fn highvane_score_row_twice_truncated(
     setting: u32,
     weights: &[i16],
     frame: &[i16],

@@ -1,6 +1,5 @@
 -- What design 2's kernel computes modulo M = 2^64. The offset r = B − 2^M may wrap, but every multiple of M that it brings in
 -- drops out of the sum again, and the product itself is below M; the bit of 2 × x below its leading one says which power is nearest.
--- Assumes nothing.
 use Rattle.std.proofs.Common.{◌≡◌, ℕ, ◌+◌, ◌-◌, ◌*◌, ◌/◌, ◌%◌, ◌^◌, ◌<◌, ◌≤◌, sym, ap, ◌∙◌, mod-eq_of_lt, div-add-mod', arith, pow_pos, le-leb}
 use native.Mathlib.Nat.{add-mod-mod, add-mul-div_right, add-mul-mod_self_right, div-eq_of_lt, div-eq_of_lt-le}
 use borrow.Author.Tests.{lt-leb}
@@ -39,7 +38,8 @@ unfolding near_power
 lead x k h e =
     rw (e, leading)
     (either-le (2 ^ log2 x) (2 * rest x)
-    (λ g. let one : rest x * 2 / 2 ^ log2 x ≡ 1 = div-eq_of_lt-le (2 ^ log2 x) (omega arith) (omega (arith, rest_lt x)) in simp (one, le-leb (2 ^ log2 x) (2 * rest x) g))
+    (λ g. let one : rest x * 2 / 2 ^ log2 x ≡ 1 = div-eq_of_lt-le (2 ^ log2 x) (omega arith) (omega (arith, rest_lt x)) in
+    simp (one, le-leb (2 ^ log2 x) (2 * rest x) g))
     (λ g. let none : rest x * 2 / 2 ^ log2 x ≡ 0 = div-eq_of_lt (omega arith) in simp (none, lt-leb (2 ^ log2 x) (2 * rest x) g) (omega arith)))
   where
     leading : (x + x) / 2 ^ log2 x ≡ rest x * 2 / 2 ^ log2 x + 2

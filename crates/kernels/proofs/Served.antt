@@ -1,4 +1,4 @@
--- The kernels compute the design itself where it keeps at most 31 bits. Assumes nothing.
+-- The kernels compute the design itself where it keeps at most 31 bits.
 use Rattle.std.proofs.Common.{◌≡◌, refl, ap}
 use native.Mathlib.Nat.{min-eq_left}
 use Rattle.designs.specs.Designs.{Design, KeepsAtMost, mitchell, nearest, staged, truncated, twice_truncated}

@@ -1,6 +1,6 @@
 -- What the kernels of designs 4 and 5 add up, for numbers whose leading bit is moved up to 2^h, and at most h kept bits. The bits from
 -- 2^(h−t) to below 2^h are then the kept fraction at that place, so the sum is there what the design carries; and the product is the
--- carried sum, moved up by h more, over 2^(k+m). Assumes nothing.
+-- carried sum, moved up by h more, over 2^(k+m).
 use Rattle.std.proofs.Common.{◌≡◌, ℕ, ◌+◌, ◌-◌, ◌*◌, ◌/◌, ◌%◌, ◌^◌, ◌<◌, ◌≤◌, max, sym, ap, ◌∙◌, ap₂, mul_comm, arith, pow_pos, pow-add}
 use lib.Bits.{bit_and, and_high}
 use lib.Pow.{low}
@@ -31,7 +31,8 @@ module _ (h t A B : ℕ) (ht : t ≤ h) where
   unfolding formula
   moved_down room pa pb powers =
       ap₂ (λ (x y : ℕ). x * 2 ^ h / 2 ^ y) (carried-top (2 ^ h) (moved h t A B) ∙ scaled) (omega arith) ∙ ap (λ (x : ℕ). x / 2 ^ (h + h - e)) raised
-      ∙ shift-down (h + h) e t (carried (2 ^ t) (total t A B)) (omega arith) (omega arith) ∙ sym (product_is (truncated t) A B pa pb ∙ truncation-at t A B)
+      ∙ shift-down (h + h) e t (carried (2 ^ t) (total t A B)) (omega arith) (omega arith)
+      ∙ sym (product_is (truncated t) A B pa pb ∙ truncation-at t A B)
     where
       e : ℕ
       e = log2 A + log2 B

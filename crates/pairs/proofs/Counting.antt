@@ -1,4 +1,4 @@
--- Whether a pair counts: its true product is 0 exactly where one of its numbers is. Assumes nothing.
+-- Whether a pair counts: its true product is 0 exactly where one of its numbers is.
 use mathlib.Core.Path.{◌≡◌, refl, sym, ap, ◌∙◌}
 use Prim.Native.Nat.{ℕ, zero, suc, ◌*◌, ◌<◌}
 use native.Mathlib.Omega.{arith}

@@ -1,5 +1,5 @@
 -- Signed machine numbers: widened ones, their sizes and tests, and what fits an i32. Each law goes by the two
--- constructors of ℤ. Assumes nothing.
+-- constructors of ℤ.
 use mathlib.Core.Path.{◌≡◌, refl, sym, ap₂, ◌∙◌}
 use Prim.Native.Nat.{◌^◌, ◌≤◌, ◌<◌}
 use native.Mathlib.Nat.{mul-le-mul}
@@ -44,7 +44,8 @@ pub true-fits : {w x : ℤ} → SFits w16 w → SFits w16 x → SFits w32 (w *�
 true-fits {w} {x} hw hx = sized (w *ℤ x) (omega (arith, true-size hw hx))
 
 -- and read back from a callee's result
-pub read-true : {r w x : ℤ} → mag r < 2 ^ 31 → r ≡ to_z w16 (of_z w16 w) *ℤ to_z w16 (of_z w16 x) → SFits w16 w → SFits w16 x → to_z w32 (of_z w32 r) ≡ w *ℤ x
+pub read-true : {r w x : ℤ} → mag r < 2 ^ 31 → r ≡ to_z w16 (of_z w16 w) *ℤ to_z w16 (of_z w16 x) → SFits w16 w → SFits w16 x
+    → to_z w32 (of_z w32 r) ≡ w *ℤ x
 read-true h e hw hx = read_back h (e ∙ ap₂ ◌*ℤ◌ (to_z-of_z hw) (to_z-of_z hx))
 
 -- the size of a number without its sign is a machine number
