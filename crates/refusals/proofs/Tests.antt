@@ -1,4 +1,4 @@
--- The tests that the code makes, as the definitions write them. Assumes nothing.
+-- The tests that the code makes, as the definitions write them.
 use mathlib.Core.Path.{◌≡◌, sym, ◌∙◌}
 use Prim.Native.Nat.{ℕ, ◌-◌, ◌≤◌}
 use native.Mathlib.Omega.{arith}

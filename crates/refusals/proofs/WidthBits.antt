@@ -1,5 +1,5 @@
 -- The widths as bits of a number: where one computed test finds that the lowest 64 bits are set just at the widths, so is any of them, and
--- no width is beyond. Assumes nothing.
+-- no width is beyond.
 use mathlib.Core.Path.{◌≡◌, refl}
 use Prim.Native.Nat.{ℕ, ◌/◌, ◌^◌, ◌≤◌, ◌<◌}
 use native.Mathlib.Omega.{arith}
