@@ -1,5 +1,5 @@
 -- Operands inside a width: the test of a signed one by its sign and its size, widths that hold every 64-bit number, and what a width of at
--- most 32 bits leaves to the kernels. Each goes by the two constructors of ℤ or by the growth of powers. Assumes nothing.
+-- most 32 bits leaves to the kernels. Each goes by the two constructors of ℤ or by the growth of powers.
 use mathlib.Core.Path.{◌≡◌, refl, sym}
 use Prim.Native.Nat.{ℕ, suc, ◌-◌, ◌*◌, ◌^◌, ◌≤◌, ◌<◌}
 use native.Mathlib.Nat.{le_trans, lt_of_lt_of_le}

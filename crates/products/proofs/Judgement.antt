@@ -1,6 +1,6 @@
 -- The judgement of a product, first by its design, width and setting, and then by its operands: the number that is found is the first of the
--- whole list, by the law of a list in two parts. Assumes nothing.
-use mathlib.Core.Path.{◌≡◌, ◌∙◌}
+-- whole list, by the law of a list in two parts.
+use mathlib.Core.Path.{◌≡◌, ap₂, ◌∙◌}
 use Prim.Native.Nat.{ℕ}
 use mathlib.Core.Bool.{Bool}
 use Rattle.designs.specs.Outcomes.{first}
@@ -19,3 +19,7 @@ module _ (design width setting : ℕ) (a b : Bool) where
     pub by-operands : s ≡ 0 → {n : ℕ} → n ≡ first (operand_refusals a b) → Judged n
     unfolding refusals setting_refusals
     by-operands z e = e ∙ of-second (setting_refusals design width setting) (operand_refusals a b) tt is z
+
+    -- of operands that have been judged one by one
+    pub by-each : s ≡ 0 → {x y : Bool} → x ≡ a → y ≡ b → {n : ℕ} → n ≡ first (operand_refusals x y) → Judged n
+    by-each z p q e = by-operands z (e ∙ ap₂ (λ (x y : Bool). first (operand_refusals x y)) p q)

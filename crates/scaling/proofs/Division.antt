@@ -1,5 +1,5 @@
 -- Binary64 division of a whole number by a power of two is the quotient. The division rounds the fraction once, which changes nothing
--- at a size up to 2^53 over a power up to 2^53, and the format holds that value in one way. Assumes nothing.
+-- at a size up to 2^53 over a power up to 2^53, and the format holds that value in one way.
 use mathlib.Core.Path.{◌≡◌, refl, sym, ap, ◌∙◌, subst}
 use mathlib.Core.Logic.{◌⊎◌, inl, inr}
 use mathlib.Core.Bool.{Bool, true, false}

@@ -1,5 +1,5 @@
 -- The quotient is exact. Its value is that of `odd`, which rounds nothing, and the format holds it because the size is at most 2^53
--- and 2^−k is a multiple of the format's smallest value, 2^−1074. Assumes nothing.
+-- and 2^−k is a multiple of the format's smallest value, 2^−1074.
 use mathlib.Core.Path.{◌≡◌, refl, ap}
 use mathlib.Core.Bool.{Bool}
 use Prim.Native.Nat.{ℕ, zero, suc, ◌+◌, ◌-◌, ◌^◌, ◌≤◌, ◌<◌}

@@ -1,4 +1,4 @@
--- What `scaled_outcome` gives for each way that its tests can go: each law puts in what the tests give and computes. Assumes nothing.
+-- What `scaled_outcome` gives for each way that its tests can go: each law puts in what the tests give and computes.
 use mathlib.Core.Path.{◌≡◌}
 use Prim.Native.Nat.{ℕ, ◌^◌, ◌≤◌, ◌<◌}
 use borrow.Author.Tests.{lt-ltb, le-ltb}

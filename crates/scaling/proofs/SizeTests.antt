@@ -1,5 +1,5 @@
 -- Tests of a signed number are tests of its size, and a cast to binary64 accepts a size of at most 2^53. Each law goes by the two
--- constructors of ℤ. Assumes nothing.
+-- constructors of ℤ.
 use mathlib.Core.Path.{◌≡◌}
 use mathlib.Core.Logic.{◌⊎◌, inl, inr}
 use mathlib.Core.Bool.{true, false, false≢true}

@@ -1,5 +1,5 @@
 -- A float that a format holds is read back from its bits, and its bits depend on its sign and its size alone. So a format holds a
--- number in one way, and `Exact` says which binary64 it speaks of. Assumes nothing.
+-- number in one way, and `Exact` says which binary64 it speaks of.
 use mathlib.Core.Path.{◌≡◌, refl, sym, ap, ◌∙◌}
 use Prim.Native.Nat.{ℕ, ◌+◌, ◌-◌, ◌*◌, ◌/◌, ◌^◌, ◌<◌}
 use native.Mathlib.Nat.{mul_right_comm}

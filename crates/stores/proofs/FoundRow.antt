@@ -1,4 +1,4 @@
--- A row that is found: no test applied, so it is below length / columns and ends at or before the store's end. Assumes nothing.
+-- A row that is found: no test applied, so it is below length / columns and ends at or before the store's end.
 use mathlib.Core.Path.{◌≡◌}
 use Prim.Native.Nat.{ℕ, ◌+◌, ◌*◌, ◌/◌, ◌%◌, ◌≤◌, ◌<◌}
 use native.Mathlib.Nat.{suc-mul, le-div_iff_mul-le, zero-div, zero-mod}

@@ -1,5 +1,5 @@
 -- When a part is what `RowPart` asks: an accepted row has an element for each column, and so at least one; the part that stands for
--- a refusal has none. Assumes nothing.
+-- a refusal has none.
 use mathlib.Core.Path.{◌≡◌}
 use mathlib.Core.List.{List}
 use Prim.Native.Nat.{ℕ, ◌*◌}
