@@ -54,7 +54,7 @@ worst-of (z ∷ zs) =
     (λ l. rw (max-eq_left l, eq-eqb (nat_abs z) (nat_abs z) refl) (worse z zs (worst-of zs) l))
     (λ l. let largest : largest_size zs ≡ largest_size (z ∷ zs) = sym (max-eq_right (le_of_lt l)) in
     subst (λ (n : ℕ). Worst (at (z ∷ zs)) (suc (length zs)) n (first_of_size n (z ∷ zs))) largest
-        (rw (ne_eqb (nat_abs z) (largest_size zs) (λ e. omega arith)) (better z zs (worst-of zs) l)))
+    (rw (ne_eqb (nat_abs z) (largest_size zs) (λ e. omega arith)) (better z zs (worst-of zs) l)))
 
 -- of the same numbers in other words
 pub worst-as : {y z : ℕ → ℤ} {n size place : ℕ} → ((k : ℕ) → k < n → y k ≡ z k) → Worst y n size place → Worst z n size place

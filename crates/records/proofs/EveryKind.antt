@@ -1,4 +1,4 @@
--- The kind of a number is one of the list that has this number, or the unknown one. The law goes down the list. Assumes nothing.
+-- The kind of a number is one of the list that has this number, or the unknown one. The law goes down the list.
 use mathlib.Core.Path.{◌≡◌}
 use Prim.Native.Nat.{ℕ}
 use mathlib.Core.Bool.{Bool, cond}

@@ -1,5 +1,5 @@
 -- The frame of an input's first record, by how the reading goes: refused, it takes all that is left; otherwise its kind is known and its bytes
--- are there. What passes the reading is what the law of the first refusal gives where it is 0. Assumes nothing.
+-- are there. What passes the reading is what the law of the first refusal gives where it is 0.
 use mathlib.Core.Path.{◌≡◌, refl}
 use Prim.Native.Nat.{ℕ, zero, suc, ◌+◌, ◌≤◌, ◌<◌}
 use native.Mathlib.Omega.{arith}

@@ -1,5 +1,5 @@
 -- The records of an input, one after the other. The first is as its frame says, and takes at least one byte and no more than there are; so as
--- many records as bytes are enough, and what follows the first is what the rest of the input holds. Assumes nothing.
+-- many records as bytes are enough, and what follows the first is what the rest of the input holds.
 use mathlib.Core.Path.{◌≡◌, refl, sym, ap, ◌∙◌}
 use Prim.Native.Nat.{ℕ, zero, suc, ◌+◌, ◌-◌, ◌≤◌, ◌<◌}
 use native.Mathlib.Omega.{arith}

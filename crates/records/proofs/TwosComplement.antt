@@ -1,5 +1,5 @@
 -- The number that bits stand for by two's complement: where the top bit is set, the machine's difference is the integer's; its size is
--- that of its bits; and it is inside the width of so many bits. Assumes nothing.
+-- that of its bits; and it is inside the width of so many bits.
 use mathlib.Core.Path.{◌≡◌, sym, ap, ◌∙◌}
 use Prim.Native.Nat.{ℕ, suc, ◌-◌, ◌*◌, ◌^◌, ◌≤◌, ◌<◌}
 use native.Mathlib.Omega.{arith}

@@ -1,5 +1,5 @@
 -- What is promised of a product follows from what it is, the answer of its outcome: by cases on the rule that applies, the pattern
--- is a finite number's, so that it is brought back, and where no operand is zero its fields are those of `Nearness`. Assumes nothing.
+-- is a finite number's, so that it is brought back, and where no operand is zero its fields are those of `Nearness`.
 use mathlib.Core.Path.{◌≡◌, refl, ap, subst⁻¹}
 use Prim.Native.Nat.{ℕ, zero-le}
 use mathlib.Core.Bool.{false≢true}

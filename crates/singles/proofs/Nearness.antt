@@ -1,6 +1,5 @@
 -- The product of two normal numbers is design 1 of their significands, in any format: in units, its size is what `Mitchell.at` gives
 -- for them times 2 to the sum of the exponent fields. So what holds of design 1, never too large and within a ninth, holds of it.
--- Assumes nothing.
 use mathlib.Core.Path.{◌≡◌, refl, sym, ap, ◌∙◌}
 use Prim.Native.Nat.{ℕ, ◌+◌, ◌-◌, ◌*◌, ◌^◌, ◌≤◌, ◌<◌}
 use native.Mathlib.Nat.{add-sub_of_le, mod-lt, mul-lt-mul_of_pos_right, mul-le-mul_right}

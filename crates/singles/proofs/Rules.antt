@@ -1,5 +1,5 @@
 -- The outcome of a product, in any format, by cases on its tests: which rule the tests lead to, and, the other way, a claim on the
--- outcome from the claim on each rule. Assumes nothing.
+-- outcome from the claim on each rule.
 use mathlib.Core.Path.{◌≡◌}
 use Prim.Native.Nat.{ℕ, ◌≤◌, ◌<◌}
 use mathlib.Core.Bool.{Bool, true, false, not, ◌&&◌, ◌||◌, cond}

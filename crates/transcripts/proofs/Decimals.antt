@@ -1,5 +1,4 @@
 -- Decimals: one digit more, and how long they are. Any fuel that is enough gives the same digits, and the number of binary digits is enough.
--- Assumes nothing.
 use Prim.Native.Nat.{ℕ, zero, suc, ◌+◌, ◌^◌, ◌/◌, ◌%◌, ◌≤◌, ◌<◌}
 use mathlib.Core.Path.{◌≡◌, refl, sym, ap, ◌∙◌}
 use mathlib.Core.List.{List, ◌++◌}

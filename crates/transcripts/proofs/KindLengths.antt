@@ -1,5 +1,5 @@
 -- How long a record's line can be, kind by kind. A refusal has two digits at most, and a value is bounded by the widths of its operands,
--- which are bytes; so every record that is read whole pays for its line with its bytes, at the rate of a table record. Assumes nothing.
+-- which are bytes; so every record that is read whole pays for its line with its bytes, at the rate of a table record.
 use mathlib.Core.Path.{◌≡◌, subst}
 use Prim.Native.Nat.{ℕ, suc, ◌%◌, ◌+◌, ◌*◌, ◌^◌, ◌≤◌, ◌<◌}
 use native.Mathlib.Omega.{arith}

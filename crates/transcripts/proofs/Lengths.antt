@@ -1,5 +1,5 @@
 -- How long a transcript can be. Every record that is read whole pays for its line with its bytes; beyond that there is at most one line of a
--- record that ends the reading, and the total. Assumes nothing.
+-- record that ends the reading, and the total.
 use mathlib.Core.Path.{refl}
 use Prim.Native.Nat.{ℕ, zero, suc, ◌+◌, ◌-◌, ◌*◌, ◌≤◌}
 use native.Mathlib.Omega.{arith}

@@ -1,5 +1,5 @@
 -- The limit of the input's length, and what a buffer that was written shows of the transcript. Reading one byte past the limit is enough:
--- a longer input gives the same transcript as that much of it. Assumes nothing.
+-- a longer input gives the same transcript as that much of it.
 use mathlib.Core.Path.{◌≡◌, sym, ap, ◌∙◌}
 use Prim.Native.Nat.{ℕ, suc, ◌≤◌, ◌<◌}
 use native.Mathlib.Nat.{zero-add}

@@ -1,6 +1,5 @@
 -- The loop over the records: what holds between two turns, a turn, and the end. Between two turns, writing what is still to be printed at the
 -- place reached writes the whole, and there is room for it; each count is at most the bytes read, since every record takes at least one.
--- Assumes nothing.
 use mathlib.Core.Path.{◌≡◌, ap, ◌∙◌}
 use Prim.Native.Nat.{ℕ, ◌+◌, ◌-◌, ◌≤◌, ◌<◌}
 use native.Mathlib.Omega.{arith}

@@ -1,5 +1,5 @@
 -- Text written in pieces: nothing, one byte, a piece and then a piece, and the room that is left after one. Each follows from what writing a
--- list in two parts does. Assumes nothing.
+-- list in two parts does.
 use Prim.Native.Nat.{ℕ, suc, ◌+◌}
 use mathlib.Core.Path.{◌≡◌, refl, sym, ap, ◌∙◌}
 use mathlib.Core.List.{List, [], ◌∷◌, ◌++◌}
