@@ -1,5 +1,5 @@
 -- A layer's answer, laid out for C. Its number of rows is as it was, so what the layer promises of each row is promised of the struct's; where it
--- is refused there are no rows. Assumes nothing.
+-- is refused there are no rows.
 use mathlib.Core.Path.{◌≡◌, sym, ap, ◌∙◌}
 use Prim.Native.Nat.{ℕ, ◌<◌}
 use native.Mathlib.Omega.{arith}
@@ -15,7 +15,8 @@ use Rattle.capi_layers.specs.Layers.{layer_struct, LayerStruct}
 use Rattle.capi_layers.specs.declared.ScoredLayer.{ScoredLayer}
 
 module _ {design setting : ℕ} {store : List ℤ} {columns : ℕ} {fs before after : List ℤ} where
-  pub laid_out : {answer : Layered} (a : Layered) → answer ≡ a → {r : ScoredLayer} → Layering design setting store columns fs before after answer → r ≡ layer_struct (given a)
+  pub laid_out : {answer : Layered} (a : Layered) → answer ≡ a → {r : ScoredLayer}
+      → Layering design setting store columns fs before after answer → r ≡ layer_struct (given a)
       → LayerStruct design setting store columns fs before after r
   laid_out {answer} a e {r} promise laid =
       record {
@@ -24,6 +25,7 @@ module _ {design setting : ℕ} {store : List ℤ} {columns : ℕ} {fs before af
         row = rows a (ap given e) laid;
       }
     where
-      rows : (a : Layered) → given answer ≡ given a → r ≡ layer_struct (given a) → (k : ℕ) → k < r.rows → Row (design_of design setting) (row_of store columns k) fs (place after k)
+      rows : (a : Layered) → given answer ≡ given a → r ≡ layer_struct (given a) → (k : ℕ) → k < r.rows
+          → Row (design_of design setting) (row_of store columns k) fs (place after k)
       rows (L.Rows n) e laid k h = promise.row n e k (omega (arith, ap (λ (s : ScoredLayer). s.rows) laid))
       rows (L.Refused n) e laid k h = absurd (omega (arith, ap (λ (s : ScoredLayer). s.rows) laid))

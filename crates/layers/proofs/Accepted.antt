@@ -1,5 +1,4 @@
 -- What an accepted design and setting give: of a row no setting is another when it is clamped, and a number that is none of 1 to 4 is 5.
--- Assumes nothing.
 use mathlib.Core.Path.{◌≡◌, sym, ap, ◌∙◌, subst}
 use Prim.Native.Nat.{ℕ, ◌≤◌, ◌<◌}
 use native.Mathlib.Omega.{arith}
@@ -54,10 +53,14 @@ module _ (design setting : ℕ) (e : first (design_refusals design setting) ≡ 
       stages-are s a b = omega arith
 
   pub fourth-is : design ≡ 4 → truncated (clamped setting) ≡ design_of design setting
-  fourth-is d = ap truncated (kept-is (subst (λ (k : ℕ). takes_setting k row_width setting ≡ true) d takes)) ∙ ap (λ (k : ℕ). design_of k setting) (sym d)
+  fourth-is d =
+      ap truncated (kept-is (subst (λ (k : ℕ). takes_setting k row_width setting ≡ true) d takes))
+      ∙ ap (λ (k : ℕ). design_of k setting) (sym d)
 
-  pub fifth-is : (design ≡ 1 → ⊥) → (design ≡ 2 → ⊥) → (design ≡ 3 → ⊥) → (design ≡ 4 → ⊥) → twice_truncated (clamped setting) ≡ design_of design setting
+  pub fifth-is : (design ≡ 1 → ⊥) → (design ≡ 2 → ⊥) → (design ≡ 3 → ⊥) → (design ≡ 4 → ⊥)
+      → twice_truncated (clamped setting) ≡ design_of design setting
   fifth-is a b c d =
       let range = both (leb 1 design) (leb design 5) known in
       let five = the_last design (leb-true 1 design range.0) (leb-true design 5 range.1) a b c d in
-      ap twice_truncated (kept-is (subst (λ (k : ℕ). takes_setting k row_width setting ≡ true) five takes)) ∙ ap (λ (k : ℕ). design_of k setting) (sym five)
+      ap twice_truncated (kept-is (subst (λ (k : ℕ). takes_setting k row_width setting ≡ true) five takes))
+      ∙ ap (λ (k : ℕ). design_of k setting) (sym five)

@@ -1,5 +1,5 @@
 -- All blocks of a layer against one frame, by any design. Where the first rows are done, their places have their sums and later ones what
--- they had; a block brings as many rows as it has. Assumes nothing.
+-- they had; a block brings as many rows as it has.
 use mathlib.Core.Path.{◌≡◌, sym, ap, ◌∙◌, subst}
 use mathlib.Core.List.{List}
 use Prim.Native.Nat.{ℕ, min, ◌+◌, ◌-◌, ◌*◌, ◌≤◌, ◌<◌}
@@ -45,7 +45,8 @@ module _ (D : Design) (store fs before : List ℤ) where
 
   -- the block of a turn
   module _ (framed : Framed fs) {scores block : List ℤ} {start first last : ℕ} (going : Going scores start first) (h : first < length scores)
-      (e : last ≡ min (first + 16) (length scores)) (scored : Scored D (take (length store - start) (drop start store)) fs (take (last - first) (drop first scores)) block) where
+      (e : last ≡ min (first + 16) (length scores))
+      (scored : Scored D (take (length store - start) (drop start store)) fs (take (last - first) (drop first scores)) block) where
     lent : length (take (last - first) (drop first scores)) ≡ last - first
     lent = simp (length-take, length-drop) (omega arith)
 
@@ -69,13 +70,16 @@ module _ (D : Design) (store fs before : List ℤ) where
                 size = same_len_mid first (last - first) scores block (size ∙ sym lent) ∙ going.done.size;
                 first = λ i l. either_lt i first
                     (λ m. put-before (pos 0) first (last - first) scores block size (omega arith) i m ∙ going.done.first i m)
-                    (λ m. ap (place (put_mid first (last - first) scores block)) (omega arith) ∙ put-at (pos 0) first (last - first) scores block size (omega arith) (i - first) (omega arith)
+                    (λ m. ap (place (put_mid first (last - first) scores block)) (omega arith)
+                    ∙ put-at (pos 0) first (last - first) scores block size (omega arith) (i - first) (omega arith)
                     ∙ row (i - first) (omega arith) ∙ ap sum (omega arith));
-                later = λ i l. ap (place (put_mid first (last - first) scores block)) (back i l) ∙ put-after (pos 0) first (last - first) scores block size (omega arith) (i - last)
+                later = λ i l. ap (place (put_mid first (last - first) scores block)) (back i l)
+                    ∙ put-after (pos 0) first (last - first) scores block size (omega arith) (i - last)
                     ∙ sym (ap (place scores) (back i l)) ∙ going.done.later i (omega arith);
               };
           stays = omega (arith, e');
-          begins = λ l. omega (arith, e', going.begins (omega (arith, going.done.size)), ap (λ (n : ℕ). n * length fs) (full l), add-mul first 16 (length fs));
+          begins = λ l.
+              omega (arith, e', going.begins (omega (arith, going.done.size)), ap (λ (n : ℕ). n * length fs) (full l), add-mul first 16 (length fs));
         }
       where
         full : last < length before → last ≡ first + 16

@@ -1,6 +1,6 @@
 -- The outcome of a layer, by the number n that its judgement gives. A refused layer leaves every place. Of an accepted one no test applied, so
 -- that each row has as many weights as the frame has numbers; the sums that the blocks leave in the first places are then the scores of
--- the rows alone, of which the third demand holds. Assumes nothing.
+-- the rows alone, of which the third demand holds.
 use mathlib.Core.Path.{◌≡◌, refl, sym, ap, ap₂, ◌∙◌, subst}
 use mathlib.Core.List.{List, [], ◌∷◌, ◌++◌}
 use Prim.Native.Nat.{ℕ, zero, suc, ◌+◌, ◌*◌, ◌/◌, ◌≤◌, ◌<◌}
@@ -30,7 +30,7 @@ use Rattle.strips.specs.Strips.{product_at}
 use Rattle.strips.proofs.EachRow.{total-as}
 use Rattle.layers.specs.Answers.{Layering, Row}
 use Rattle.layers.specs.Blocks.{Framed, Rowed}
-use Rattle.layers.specs.Layers.{layer_outcome, layer_refusal, layer_refusals, layer_written, row_of, rows, score_of, scores_from, scores_too_short}
+use Rattle.layers.specs.Layers.{layer_outcome, layer_refusal, layer_refusals, layer_written, row_of, score_of, scores_from, scores_too_short}
 use Rattle.layers.specs.declared.Layered.TheVariants as L
 
 -- how many scores there are, and which is at a place
@@ -55,7 +55,8 @@ module _ (D : Design) (store : List ℤ) (columns : ℕ) (fs : List ℤ) where
     unfolding report
     sum_is =
         total-as (length fs) (λ k h. ap (λ (w : ℤ). signed_product D w (place fs k)) (sym (weight k h)))
-        ∙ ap (total (of_pair (signed_product D) (row_of store columns r) fs)) (sym row-length) ∙ whole_ℤ (row_of store columns r) fs row-length (signed_product D)
+        ∙ ap (total (of_pair (signed_product D) (row_of store columns r) fs)) (sym row-length)
+        ∙ whole_ℤ (row_of store columns r) fs row-length (signed_product D)
       where
         weight : (k : ℕ) → k < length fs → place (row_of store columns r) k ≡ place store (r * length fs + k)
         weight k h =
@@ -128,7 +129,8 @@ module _ (design setting : ℕ) (store : List ℤ) (columns : ℕ) (fs before : 
     all : new ≡ scores_from D store columns fs 0 n
     all =
         ext_get_or (pos 0) new (scores_from D store columns fs 0 n) (size ∙ sym (scores-length D store columns fs 0 n))
-        (λ r h. let l : r < n = omega (arith, size) in at r l ∙ sym (score-at D store columns fs 0 n r l ∙ ap (score_of D store columns fs) (omega arith)))
+        (λ r h. let l : r < n = omega (arith, size) in
+        at r l ∙ sym (score-at D store columns fs 0 n r l ∙ ap (score_of D store columns fs) (omega arith)))
 
     pub score : Layering design setting store columns fs before (new ++ drop n before) (L.Rows n)
     unfolding layer_outcome layer_written layer_refusal
@@ -152,5 +154,7 @@ module _ (design setting : ℕ) (store : List ℤ) (columns : ℕ) (fs before : 
             record {
               alone = alone;
               demand = d;
-              bounded = subst (λ (z : ℤ). let q = report D ws fs in Bounded D (nat_abs z) q.magnitude_sum q.nonzero_pairs) (d.exact ∙ ap (λ (z : ℤ). (report D ws fs).true_sum -ℤ z) (sym alone)) d.bounded;
+              bounded =
+                  subst (λ (z : ℤ). let q = report D ws fs in Bounded D (nat_abs z) q.magnitude_sum q.nonzero_pairs)
+                  (d.exact ∙ ap (λ (z : ℤ). (report D ws fs).true_sum -ℤ z) (sym alone)) d.bounded;
             }

@@ -1,0 +1,7 @@
+-- The layer's answer is laid out case by case: where it is a number of rows, as it was given.
+use Rattle.std.proofs.Common.{refl}
+use Rattle.capi_layers.proofs.LayerAnswer.{laid_out}
+use Rattle.capi_layers.proofs.highvane_score_layer.Goals as goal
+
+pub returns-in-Rows : goal.returns-in-Rows
+returns-in-Rows c = laid_out _ c.in-Rows.is c.score_layer-answer.ensures refl

@@ -1,0 +1,11 @@
+-- The rows before `first` are done, and the next begins at `start`.
+use Rattle.std.proofs.Common.{length, ◌-◌}
+use Rattle.designs.specs.Designs.{nearest}
+use Rattle.layers.proofs.EachBlock.{Going}
+use Rattle.layers.proofs.by_blocks.nearest.Given as goal
+
+abbrev pub invariant-loop-first : goal.invariant-loop-first
+invariant-loop-first l = Going nearest l.store l.frame l.initial.scores l.scores l.start l.first
+
+abbrev pub decreases-loop-first : goal.decreases-loop-first
+decreases-loop-first l = length l.initial.scores - l.first
