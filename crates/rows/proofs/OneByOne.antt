@@ -1,5 +1,5 @@
 -- A row that goes pair by pair, by any design: with the residue of the next pair a turn can be made, and after all pairs the row is
--- complete. Assumes nothing.
+-- complete.
 use mathlib.Core.Path.{◌≡◌, refl, ap, ap₂, ◌∙◌}
 use Prim.Native.Nat.{ℕ, ◌+◌, ◌^◌, ◌≤◌, ◌<◌}
 use native.Mathlib.Omega.{arith}
@@ -24,6 +24,11 @@ abbrev pub NextPair : Design → List ℤ → List ℤ → List ℤ → List ℤ
 NextPair D ws fs before after at s r =
     Turnable (of_pair (residue D) ws fs) ws fs before after at s (to_z w16 (of_z w16 (place ws at))) (to_z w16 (of_z w16 (place fs at))) (to_z w32 (of_z w32 r))
 
+-- the row that a turn asks for
+pub asked : {z : ℕ → ℤ} {ws fs before after : List ℤ} {at : ℕ} {s : Sums} {w x r : ℤ} → Turnable z ws fs before after at s w x r
+    → (y : ℕ → ℤ) × ((us : List ℤ) × ((vs : List ℤ) × ((places : List ℤ) × Turnable y us vs places after at s w x r)))
+asked ok = (_, (_, (_, (_, ok))))
+
 module _ {D : Design} {ws fs before : List ℤ} where
   pub on : {after : List ℤ} {at : ℕ} {s : Sums} → at < length ws → Reached (of_pair (residue D) ws fs) ws fs before after (at + 1) s → Going D ws fs before after (at + 1) s
   on h reached = record { inside = omega arith; reached = reached }
@@ -35,8 +40,8 @@ module _ {D : Design} {ws fs before : List ℤ} where
   pub next-as : {E : Design} → E ≡ D → {after : List ℤ} {at : ℕ} {s : Sums} {r : ℤ} → Ready D ws fs before → Going D ws fs before after at s → at < length ws → mag (place ws at) < 2 ^ 15
       → mag (place fs at) < 2 ^ 15 → mag r < 2 ^ 31 → r ≡ residue E (to_z w16 (of_z w16 (place ws at))) (to_z w16 (of_z w16 (place fs at))) → NextPair D ws fs before after at s r
   next-as {E} same {at = at} ready so_far h hw hx hr e =
-      let w : to_z w16 (of_z w16 (place ws at)) ≡ place ws at = to_z-of_z (record { sfits = hw }) in
-      let x : to_z w16 (of_z w16 (place fs at)) ≡ place fs at = to_z-of_z (record { sfits = hx }) in
+      let w : to_z w16 (of_z w16 (place ws at)) ≡ place ws at = to_z-of_z {w = w16} (record { sfits = hw }) in
+      let x : to_z w16 (of_z w16 (place fs at)) ≡ place fs at = to_z-of_z {w = w16} (record { sfits = hx }) in
       record {
         reached = so_far.reached;
         few = omega (arith, ready.pairs);

@@ -8,13 +8,15 @@ loop-j-init c = begun c.no_sums-sums.ensures
 
 pub with_pair-sums-requires : goal.with_pair-sums-requires
 with_pair-sums-requires c =
+    let residue = c.mitchell_residue-residue in
     ready c.loop-j.invariant
-    (record { weight = search rules; number = search rules; ok = c.mitchell_residue-residue.type_inv; is = c.mitchell_residue-residue.ensures }) tt (omega arith)
+    (record { weight = search rules; number = search rules; ok = residue.type_inv; is = residue.ensures }) tt (omega arith)
 
 pub loop-j-preserved : goal.loop-j-preserved
 loop-j-preserved c =
+    let residue = c.mitchell_residue-residue in
     next c.loop-j.invariant
-    (record { weight = search rules; number = search rules; ok = c.mitchell_residue-residue.type_inv; is = c.mitchell_residue-residue.ensures })
+    (record { weight = search rules; number = search rules; ok = residue.type_inv; is = residue.ensures })
     c.loop-j-test.true (omega arith) c.with_pair-sums.ensures
 
 pub returns : goal.returns

@@ -39,7 +39,8 @@ pub overflow_mul-block : goal.overflow_mul-block
 overflow_mul-block c = subst (SFits w32) (sym (is c)) (fits c)
 
 pub loop-j-preserved : goal.loop-j-preserved
-loop-j-preserved c = (omega arith, next-done _ (j c) _ c.loop-j.invariant.1 (omega (arith, c.requires.room)) (to_z-of_z (overflow_mul-block c) ∙ is c))
+loop-j-preserved c =
+    (omega arith, next-done _ (j c) _ c.loop-j.invariant.1 (omega (arith, c.requires.room)) (to_z-of_z (overflow_mul-block c) ∙ is c))
 
 pub returns : goal.returns
 returns c = all_done c.loop-j.invariant.1 c.loop-j.invariant.0 c.loop-j-test.false

@@ -35,5 +35,5 @@ equal s ea em ez eg = cc
 
 pub returns : goal.returns
 returns c =
-    equal c.args.sums (of_pair c (λ w x. nat_abs (w *ℤ x)) c.true_size-size.ensures) (of_pair c (λ w x. minus_size (w *ℤ x)) c.minus_size-minus.ensures)
-    (of_pair c (λ w x. 1 - nonzero w x) c.holds_zero.ensures) (largest-is c)
+    equal c.args.sums (of_pair c (λ w x. nat_abs (w *ℤ x)) c.true_size-size.ensures)
+    (of_pair c (λ w x. minus_size (w *ℤ x)) c.minus_size-minus.ensures) (of_pair c (λ w x. 1 - nonzero w x) c.holds_zero.ensures) (largest-is c)

@@ -1,0 +1,13 @@
+-- The loop's invariant: the row has been reached as far as pair `at`, whatever the places held before the row.
+use Rattle.std.proofs.Common.{◌-◌, List, ℤ, length}
+use Rattle.designs.specs.Designs.{staged}
+use Rattle.rows.specs.Totals.{Going, Ongoing}
+use Rattle.rows.proofs.one_by_one.staged.Given as goal
+
+abbrev pub invariant-loop-at : goal.invariant-loop-at
+invariant-loop-at l =
+    (places : List ℤ) → Ongoing (staged l.stages) l.weights l.frame places l.initial.residues l.initial.from l.initial.sums
+    → Going (staged l.stages) l.weights l.frame places l.residues l.at l.sums
+
+abbrev pub decreases-loop-at : goal.decreases-loop-at
+decreases-loop-at l = length l.weights - l.at
