@@ -15,10 +15,10 @@ turn-sums-requires c =
 
 pub loop-at-preserved : goal.loop-at-preserved
 loop-at-preserved c places ok =
-    let residue = c.nearest_residue-residue in
+    let left = c.nearest_residue-residue in
     on c.loop-at-test.true
     (c.turn-sums.ensures _ _ _ _
-    (next ok.ready (c.loop-at.invariant places ok) c.loop-at-test.true (search rules) (search rules) residue.type_inv residue.ensures))
+    (next ok.ready (c.loop-at.invariant places ok) c.loop-at-test.true (search rules) (search rules) left.type_inv left.ensures))
 
 pub returns : goal.returns
 returns c places ok = gone (c.loop-at.invariant places ok) c.loop-at-test.false
