@@ -48,11 +48,18 @@ pub next-byte : (byte : ℤ → ℤ) → ((z : ℤ) → mag z < 2 ^ 15 → nat_a
     → y ≡ byte (to_z w16 (of_z w16 (place numbers j))) → p ≡ raised_of (to_z w16 (of_z w16 y)) → Raising n (λ k. byte (place numbers k)) before (set left j p) (j + 1)
 next-byte byte few numbers {j = j} r h room fits narrow ey ep =
     next-raised r h room (mag-size (byte (place numbers j)) (omega (arith, few (place numbers j) fits)))
-    (ep ∙ ap raised_of (to_z-of_z (record { sfits = narrow }) ∙ ey ∙ ap byte (to_z-of_z (record { sfits = fits }))))
+    (ep ∙ ap raised_of (to_z-of_z {w = w16} (record { sfits = narrow }) ∙ ey ∙ ap byte (to_z-of_z {w = w16} (record { sfits = fits }))))
 
 -- a pattern that is still as it was, where the first j have changed
 pub still : {g : ℕ → ℕ} {n j : ℕ} {f : ℕ → ℤ} {before left : List ℕ} → Patterned n f before → Filled g j before left → j < n → get_or left j 0 ≡ raised_of (f j)
 still {j = j} p done h = done.later j (omega arith) ∙ p.at j h
+
+-- one number more, of which a callee makes h
+pub more-taken : (h : ℤ → ℤ) {n j r : ℕ} {f : ℕ → ℤ} {before left : List ℕ} → Patterned n f before
+    → Filled (λ k. raised_of (h (f k))) j before left → j < n
+    → ((z : ℤ) → nat_abs z ≤ 2 ^ 15 → get_or left j 0 ≡ raised_of z → r ≡ raised_of (h z))
+    → Filled (λ k. raised_of (h (f k))) (j + 1) before (set left j r)
+more-taken h {j = j} {f = f} p done l made = next-filled done (omega (arith, p.room)) (made (f j) (nat_abs-le (f j) (p.small j l)) (still p done l))
 
 -- the patterns of what h makes of each number
 pub all-taken : (h : ℤ → ℤ) → ((z : ℤ) → mag z < 2 ^ 15 → mag (h z) < 2 ^ 15) → {n j : ℕ} {f : ℕ → ℤ} {before left : List ℕ} → Patterned n f before
@@ -66,7 +73,7 @@ all-taken h keeps {f = f} p done l =
 
 -- the sum of the first j numbers, and of one more, as a callee gives it
 pub sum_more : (f : ℕ → ℤ) {j : ℕ} {s y : ℤ} → s ≡ total f j → mag y < 2 ^ 31 → y ≡ f j → s +ℤ to_z w32 (of_z w32 y) ≡ total f (j + 1)
-sum_more f {j} es small ey = ap₂ ◌+ℤ◌ es (to_z-of_z (record { sfits = small }) ∙ ey) ∙ sym (total-next f j)
+sum_more f {j} es small ey = ap₂ ◌+ℤ◌ es (to_z-of_z {w = w32} (record { sfits = small }) ∙ ey) ∙ sym (total-next f j)
 
 pub sum-size : (f : ℕ → ℤ) {n : ℕ} → ((k : ℕ) → k < n → mag (f k) < 2 ^ 15) → n ≤ 128 → nat_abs (total f n) ≤ 2 ^ 22
 sum-size f {n} small few = omega (arith, total_size f (2 ^ 15) n (λ k h. nat_abs-le (f k) (small k h)))

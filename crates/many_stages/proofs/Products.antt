@@ -48,6 +48,16 @@ distribute w h l = go (as-gap w) (as-gap h) (as-gap l)
 pub times-bytes : (w x : ℤ) → w *ℤ high_byte x *ℤ pos 256 +ℤ w *ℤ low_byte x ≡ w *ℤ x
 times-bytes w x = distribute w (high_byte x) (low_byte x) ∙ ap (λ (z : ℤ). w *ℤ z) (bytes x)
 
+-- product k with the high bytes, with the low ones, and of what s stages leave
+abbrev pub high_product : List ℤ → (ℕ → ℤ) → ℕ → ℤ
+high_product part f k = (f k +ℤ pos 32769) *ℤ high_byte (place part k)
+
+abbrev pub low_product : List ℤ → (ℕ → ℤ) → ℕ → ℤ
+low_product part f k = (f k +ℤ pos 32769) *ℤ low_byte (place part k)
+
+abbrev pub rest_product : ℕ → List ℤ → (ℕ → ℤ) → ℕ → ℤ
+rest_product s part f k = (f k +ℤ pos 2048) *ℤ left_ℤ s (place part k)
+
 -- a number of a row, and one of the frame
 module _ {s n : ℕ} {part : List ℤ} {f : ℕ → ℤ} {left held : List ℕ} (r : Ready s n part f left held) {j : ℕ} (h : j < n) where
   abbrev x : ℤ

@@ -151,4 +151,4 @@ module _ {x : Float} (y : ℤ) (e : x ≡ of_int binary64 y) (l : nat_abs y < 2 
   casts = rw e (cast-back y l).0
 
   pub cast_is : to_z w32 (of_z w32 (to_signed 31 x)) ≡ y
-  cast_is = to_z-of_z (record { sfits = to_signed_in 31 x }) ∙ ap (to_signed 31) e ∙ (cast-back y l).1
+  cast_is = to_z-of_z {w = w32} (record { sfits = to_signed_in 31 x }) ∙ ap (to_signed 31) e ∙ (cast-back y l).1
