@@ -1,5 +1,5 @@
 -- A row's answer, laid out for C. Its report is as it was, so what the row promises of a report is promised of the struct's; a refusal is
--- never 0, so nothing is promised of the zeros beside it. Assumes nothing.
+-- never 0, so nothing is promised of the zeros beside it.
 use mathlib.Core.Path.{◌≡◌, refl, sym, ◌∙◌, subst}
 use Prim.Native.Nat.{ℕ, ◌<◌}
 use native.Mathlib.Omega.{arith}

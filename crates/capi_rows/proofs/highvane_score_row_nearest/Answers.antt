@@ -1,0 +1,6 @@
+-- The answer of the row, laid out.
+use Rattle.capi_rows.proofs.RowAnswer.{laid_out}
+use Rattle.capi_rows.proofs.highvane_score_row_nearest.Goals as goal
+
+pub returns : goal.returns
+returns c = laid_out _ c.score_row_nearest.ensures c.laid.ensures

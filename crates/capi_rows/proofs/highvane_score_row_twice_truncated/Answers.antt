@@ -1,0 +1,6 @@
+-- The answer of the row, laid out.
+use Rattle.capi_rows.proofs.RowAnswer.{laid_out}
+use Rattle.capi_rows.proofs.highvane_score_row_twice_truncated.Goals as goal
+
+pub returns : goal.returns
+returns c = laid_out _ c.score_row_twice_truncated.ensures c.laid.ensures
