@@ -1,12 +1,13 @@
 -- A strip of the frame against all rows, by any design. The row of place r begins r frames after the first weight, or is past the end of the
--- weights, where all count as 0; its sum over the strip is added to what its place counts for so far. Assumes nothing.
-use Rattle.std.proofs.Common.{◌≡◌, ℕ, zero, suc, ◌+◌, ◌-◌, ◌*◌, ◌^◌, ◌<◌, ◌≤◌, min, List, length, take, drop, set, ℤ, pos, ◌+ℤ◌, nat_abs, sym, refl, ap, ◌∙◌, ap₂, arith, length-drop, get_or-drop, take_all, w64, SFits, to_z, of_z, below_more}
+-- weights, where all count as 0; its sum over the strip is added to what its place counts for so far.
+use Rattle.std.proofs.Common.{◌≡◌, ℕ, zero, suc, ◌+◌, ◌-◌, ◌*◌, ◌^◌, ◌<◌, ◌≤◌, min, List, length, take, drop, set, ℤ, pos, ◌+ℤ◌, nat_abs, sym, refl, ap, ◌∙◌, ap₂, arith, length-drop, get_or-drop, take_all, w64, SFits, to_z, of_z, to_z-of_z, below_more}
 use lib.ListN.{get_or-eq_default}
+use lib.Signed.{mag}
 use Rattle.designs.specs.Designs.{Design}
 use Rattle.designs.specs.Signs.{signed_product}
 use Rattle.designs.proofs.Cases.{either_lt}
 use Rattle.designs.proofs.Sizes.{size-add}
-use Rattle.signs.proofs.Integers.{read_as, sized}
+use Rattle.signs.proofs.Integers.{read_as, read_back, sized}
 use Rattle.patterns.specs.Blocks.{Done, place}
 use Rattle.patterns.proofs.Blocks.{all_done, next-done, none_done}
 use Rattle.blocks.specs.Counts.{total}
@@ -81,3 +82,19 @@ module _ (D : Design) (columns from : ℕ) (ws part before : List ℤ) where
             small = below_more _ _ going.small (rw (sym is) (omega (arith, size-add so_far sum, summed.small, ap nat_abs so-far-is)));
             begins = omega (arith, e', going.begins);
           }
+
+  -- the same of numbers as callees give them: the row's sum, and what its place counts for
+  module _ {scores : List ℤ} {at r start : ℕ} {sum so_far : ℤ} (going : Going scores at r) (h : r < length scores)
+      (e : start ≡ min (at + from) (length ws)) (few : length part ≤ 4096) (room : Room from before)
+      (score : SFits w64 (place scores r)) (so : mag so_far < 2 ^ 63)
+      (s : so_far ≡ started from (to_z w64 (of_z w64 (place scores r)))) (small : mag sum < 2 ^ 63)
+      (summed : Summed D (take (length ws - start) (drop start ws)) part sum) where
+    counts : so_far ≡ started from (place scores r)
+    counts = s ∙ ap (started from) (to_z-of_z score)
+
+    pub fits-read : SFits w64 (to_z w64 (of_z w64 so_far) +ℤ to_z w64 (of_z w64 sum))
+    fits-read = rw (read_back so_far so, read_back sum small) (fits going h e summed few room counts)
+
+    pub next-read : {at' : ℕ} → at' ≡ min (at + columns) (length ws)
+        → Going (set scores r (to_z w64 (of_z w64 (to_z w64 (of_z w64 so_far) +ℤ to_z w64 (of_z w64 sum))))) at' (r + 1)
+    next-read e' = rw (read_back so_far so, read_back sum small) (next going h e summed few room counts e')

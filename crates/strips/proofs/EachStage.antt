@@ -1,5 +1,5 @@
 -- Design 3 over a strip, stage by stage. One stage more takes the leading power off what is left of each number, and adds the product of what
--- was left of both numbers of a pair to the products so far. Assumes nothing.
+-- was left of both numbers of a pair to the products so far.
 use Rattle.std.proofs.Common.{◌≡◌, ℕ, suc, ◌+◌, ◌-◌, ◌*◌, ◌^◌, ◌<◌, ◌≤◌, min, List, length, get_or, take, set, ℤ, pos, ◌+ℤ◌, nat_abs, sym, refl, ap, ◌∙◌, ap₂, add-one, arith, length-set, length-take, get_or-set_other, get_or-take, get_or-set_same, to_z-of_z, w16, w32, SFits, to_z, of_z}
 use borrow.Rule.Slice.PartMut.{put_mid}
 use lib.Ieee.{unlike}

@@ -1,5 +1,5 @@
 -- All strips of a frame against all rows, by any design: where the first `from` columns are done, each place counts for the sum of as many
--- products of its row, and a strip brings it on by the strip's. Assumes nothing.
+-- products of its row, and a strip brings it on by the strip's.
 use Rattle.std.proofs.Common.{◌≡◌, ℕ, zero, suc, ◌+◌, ◌-◌, ◌*◌, ◌^◌, ◌<◌, ◌≤◌, List, length, take, drop, ℤ, pos, ◌+ℤ◌, nat_abs, sym, refl, ap, ◌∙◌, ap₂, add_assoc, le_antisymm, arith, length-drop, length-take, get_or-drop, get_or-take}
 use Rattle.designs.specs.Designs.{Design}
 use Rattle.designs.specs.Signs.{signed_product}

@@ -1,4 +1,4 @@
--- A loop that makes codes of a part of a frame, number by number: one turn more is one code more, whatever a number becomes. Assumes nothing.
+-- A loop that makes codes of a part of a frame, number by number: one turn more is one code more, whatever a number becomes.
 use Rattle.std.proofs.Common.{◌≡◌, ℕ, ◌+◌, ◌^◌, ◌<◌, ◌≤◌, List, length, get_or, set, ℤ, nat_abs, refl, ap, ◌∙◌, arith, length-set, get_or-set_other, get_or-set_same, to_z-of_z, w16, to_z, of_z}
 use lib.Signed.{mag, nat_abs-le}
 use Rattle.designs.proofs.Cases.{either_lt}

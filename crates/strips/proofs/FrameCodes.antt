@@ -1,12 +1,13 @@
 -- Codes of the frame's numbers, by any logarithm below 16. Added to the raised pattern of a weight a code gives the sum of both patterns less
--- that of 1, as the laws of the designs have it; and a code is 0 for 0 alone, as a raised pattern is. Assumes nothing.
-use Rattle.std.proofs.Common.{◌≡◌, ℕ, zero, suc, ◌+◌, ◌*◌, ◌%◌, ◌^◌, ◌<◌, ◌≤◌, Bool, true, false, ℤ, ◌*ℤ◌, nat_abs, sym, refl, ◌∙◌, arith}
+-- that of 1, as the laws of the designs have it; and a code is 0 for 0 alone, as a raised pattern is.
+use Rattle.std.proofs.Common.{◌≡◌, ℕ, zero, suc, ◌+◌, ◌*◌, ◌%◌, ◌^◌, ◌<◌, ◌≤◌, Bool, true, false, List, length, get_or, ℤ, ◌*ℤ◌, nat_abs, sym, refl, ◌∙◌, arith}
 use Rattle.designs.specs.Designs.{unless_zero}
 use Rattle.designs.specs.Signs.{negative}
 use Rattle.designs.proofs.Sizes.{size-true}
+use Rattle.patterns.specs.Blocks.{place}
 use Rattle.patterns.specs.Patterns.{log_pattern, masked_by, raised_by}
 use Rattle.patterns.proofs.Moved.{raised_at, raised-none}
-use Rattle.strips.specs.Codes.{code_by, Logs}
+use Rattle.strips.specs.Codes.{code_by, Coded, Logs}
 
 -- numbers that are not 0, and 0
 pub none_left : (p q s : ℕ) → p ≡ 0 → 0 ≡ unless_zero p q s
@@ -94,3 +95,8 @@ module _ (h : ℕ → ℕ) where
         go (suc m) em (suc n) en =
             sym (some (raised_by h u) (code_by h v) s (λ e. omega (arith, raised-some u (omega (arith, em)))) (λ e. omega (arith, code-some (omega (arith, en)))))
             ∙ some (nat_abs u * nat_abs v) 1 s (rw (sym em, sym en) (λ e. omega arith)) (λ e. omega arith)
+
+-- the pattern of a weight, and the code of number k of a part
+pub part-logs : {h : ℕ → ℕ} {w : ℤ} {part : List ℤ} {codes : List ℕ} {p : ℕ} (k : ℕ) → nat_abs w ≤ 2 ^ 15 → p ≡ raised_by h w
+    → Coded (code_by h) part codes → k < length part → Logs h w (place part k) p (get_or codes k 0)
+part-logs k small e coded inside = let at = coded.at k inside in record { first = small; second = at.1; pattern = e; code = at.0 }

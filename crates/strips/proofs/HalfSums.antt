@@ -1,5 +1,5 @@
 -- A sum in two halves: a number is 2^16 times its high half and its low one, and both kinds are added up apart. Where the pairs end before
--- the frame's part, the weights that are missing count as 0, and so do their products. Assumes nothing.
+-- the frame's part, the weights that are missing count as 0, and so do their products.
 use Rattle.std.proofs.Common.{◌≡◌, ℕ, zero, suc, ◌+◌, ◌-◌, ◌*◌, ◌/◌, ◌%◌, ◌^◌, ◌<◌, ◌≤◌, min, Bool, true, false, List, length, ℤ, pos, negsuc, ◌+ℤ◌, ◌*ℤ◌, nat_abs, sym, refl, ap, ◌∙◌, subst, ap₂, add-zero, add-suc, le_antisymm, arith, to_z-of_z, w32, to_z, of_z}
 use lib.Ieee.{unlike}
 use lib.IntN.{+ℤ_idr}

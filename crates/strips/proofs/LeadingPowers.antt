@@ -1,5 +1,5 @@
 -- One stage of design 3 by codes. Without its fraction the code of a number is that of its leading power, as the raised pattern is; and
--- the product of a stage is the sum of two with such a power, which design 1 gives. Assumes nothing.
+-- the product of a stage is the sum of two with such a power, which design 1 gives.
 use Rattle.std.proofs.Common.{◌≡◌, ℕ, zero, suc, ◌+◌, ◌-◌, ◌*◌, ◌/◌, ◌%◌, ◌^◌, ◌<◌, ◌≤◌, Bool, true, false, ℤ, ◌+ℤ◌, nat_abs, sym, refl, ap, ◌∙◌, arith, pow_pos, w32, SFits}
 use lib.Bits.{bit_and, and_high}
 use Rattle.designs.specs.Codes.{code}

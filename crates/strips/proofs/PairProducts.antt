@@ -1,4 +1,4 @@
--- The products of a weight's raised pattern and a number's code, by each design. Assumes nothing.
+-- The products of a weight's raised pattern and a number's code, by each design.
 use Rattle.std.proofs.Common.{◌≡◌, ℕ, zero, suc, ◌+◌, ◌-◌, ◌*◌, ◌%◌, ◌^◌, ◌<◌, ◌≤◌, ℤ, pos, ◌+ℤ◌, ◌*ℤ◌, nat_abs, sym, refl, ◌∙◌, subst, ap₂, mul-le-mul_right, arith, pow_pos, w32, SFits}
 use lib.Ieee.{unlike}
 use Rattle.designs.specs.Codes.{code, kept_code}

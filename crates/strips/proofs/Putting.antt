@@ -1,5 +1,4 @@
 -- A list with n places from the a-th on replaced: the places before stay, the replaced ones have what is put there, and those behind stay.
--- Assumes nothing.
 use Rattle.std.proofs.Common.{◌≡◌, ℕ, ◌+◌, ◌<◌, ◌≤◌, List, ◌++◌, length, get_or, take, drop, sym, ap, ◌∙◌, arith, length-take, get_or-drop, get_or-take, get_or-append-add}
 use borrow.Rule.Slice.PartMut.{put_mid}
 use lib.ListN.{get_or-append}

@@ -1,6 +1,6 @@
 -- Design 5 of a weight and a number's four codes. The kept fraction of the weight stays below the number's room where the first stage is low;
 -- then, or else, what is left of both goes through the second stage; and the sign of the first stage's sum is that of the product, unless
--- the second gives nothing. Assumes nothing.
+-- the second gives nothing.
 use Rattle.std.proofs.Common.{◌≡◌, ℕ, zero, suc, ◌+◌, ◌-◌, ◌*◌, ◌%◌, ◌^◌, ◌<◌, ◌≤◌, Bool, true, false, cond, ltb, leb, ℤ, pos, ◌+ℤ◌, nat_abs, sym, refl, ap, ◌∙◌, ap₂, mul-le-mul_right, arith, w32, SFits, le-ltb, lt-ltb, le-leb}
 use borrow.Author.Tests.{lt-leb}
 use lib.Ieee.{unlike}

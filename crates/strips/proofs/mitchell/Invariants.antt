@@ -1,0 +1,11 @@
+-- Where the first columns are done, each place counts for the sum of as many products of its row.
+use Rattle.std.proofs.Common.{◌-◌}
+use Rattle.designs.specs.Designs.{mitchell}
+use Rattle.strips.proofs.EachStrip.{Going}
+use Rattle.strips.proofs.mitchell.Given as goal
+
+abbrev pub invariant-loop-from : goal.invariant-loop-from
+invariant-loop-from l = Going mitchell l.weights l.frame l.initial.scores l.scores l.from
+
+abbrev pub decreases-loop-from : goal.decreases-loop-from
+decreases-loop-from l = l.to - l.from
