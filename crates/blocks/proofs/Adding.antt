@@ -1,5 +1,5 @@
 -- What the pairs of a block add up to. Each sum grows by what the next pair has, and 64 pairs leave room in all of them; and a number is its
--- quotient by 2^16 and its rest, so that both halves of a sum make the sum. Assumes nothing.
+-- quotient by 2^16 and its rest, so that both halves of a sum make the sum.
 use mathlib.Core.Path.{◌≡◌, refl, ap, ap₂, ◌∙◌, subst}
 use Prim.Native.Nat.{ℕ, zero, suc, ◌+◌, ◌-◌, ◌*◌, ◌/◌, ◌%◌, ◌^◌, ◌≤◌, ◌<◌}
 use native.Mathlib.Nat.{le_antisymm}

@@ -1,4 +1,4 @@
--- Laws of sums over the numbers below n, and of the greatest, each by induction on n. Assumes nothing.
+-- Laws of sums over the numbers below n, and of the greatest, each by induction on n.
 use mathlib.Core.Path.{◌≡◌, refl, sym, ap, ap₂, ◌∙◌}
 use Prim.Native.Nat.{ℕ, zero, suc, max, ◌+◌, ◌*◌, ◌≤◌, ◌<◌}
 use native.Mathlib.Nat.{add-zero, add-suc, suc-mul}

@@ -1,5 +1,5 @@
 -- Design 3 on a block: what the stages leave of a weight, and n places behind it of its number of the frame. Both multiplied are the
--- residue of the pair. Assumes nothing.
+-- residue of the pair.
 use mathlib.Core.Path.{◌≡◌, refl, sym, ap, ap₂, ◌∙◌}
 use Prim.Native.Nat.{ℕ, ◌+◌, ◌/◌, ◌^◌, ◌<◌}
 use native.Mathlib.Nat.{mul-le-mul}

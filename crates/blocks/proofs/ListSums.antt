@@ -1,4 +1,4 @@
--- Totals over all pairs of two lists are the sums of their pairs: a total grows pair by pair as the sum over a list does. Assumes nothing.
+-- Totals over all pairs of two lists are the sums of their pairs: a total grows pair by pair as the sum over a list does.
 use mathlib.Core.Path.{◌≡◌, refl, sym, ap, ap₂, ◌∙◌}
 use Prim.Native.Nat.{ℕ, zero, suc, ◌+◌, ◌≤◌}
 use native.Mathlib.Nat.{le_refl}

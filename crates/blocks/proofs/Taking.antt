@@ -1,5 +1,5 @@
 -- A block by any design. Where one loop fills it and adds its pairs up, a turn puts the next residue to its place and into the sums. Where
--- the sums come after, they are those of what the block holds, which are the residues. Assumes nothing.
+-- the sums come after, they are those of what the block holds, which are the residues.
 use mathlib.Core.Path.{◌≡◌, refl, sym, ap₂, ◌∙◌}
 use mathlib.Core.List.{List}
 use Prim.Native.Nat.{ℕ, ◌+◌, ◌^◌, ◌≤◌, ◌<◌}

@@ -1,6 +1,6 @@
 -- What holds of a product that is accepted, at each width that there is: no test applied, so that the width has 1 to 32 bits, the kept bits
 -- are as the kernels need them, and both operands are inside the width. So an unsigned product of w bits is below 2^(2w), and a signed one
--- below 2^(2w−1) in size, which 64 bits hold. Assumes nothing.
+-- below 2^(2w−1) in size, which 64 bits hold.
 use mathlib.Core.Path.{◌≡◌}
 use Prim.Native.Nat.{ℕ, ◌-◌, ◌*◌, ◌^◌, ◌≤◌, ◌<◌}
 use mathlib.Core.Bool.{Bool, true}

@@ -1,5 +1,5 @@
 -- The product by codes is design 1, for any number h of code bits. The sum of two codes is 2^h × (k + m) + u, where u is s of design 1
--- scaled by 2^h / 2^(k+m); so (2^h + R) × 2^Q goes by the same two cases and is 2^h times the product of design 1. Assumes nothing.
+-- scaled by 2^h / 2^(k+m); so (2^h + R) × 2^Q goes by the same two cases and is 2^h times the product of design 1.
 use mathlib.Core.Path.{◌≡◌, sym, ap, ap₂, ◌∙◌}
 use Prim.Native.Nat.{ℕ, zero, suc, ◌+◌, ◌-◌, ◌*◌, ◌/◌, ◌%◌, ◌^◌, ◌≤◌, ◌<◌}
 use native.Mathlib.Nat.{add-mul-div_right, add-mul-mod_self_right, add-sub_of_le, mul-div_cancel_left, mul-le-mul_left, mul-le-mul_right, mul-mod_right}

@@ -1,6 +1,6 @@
 -- The third demand holds of every report. Each design bounds the residue of one pair by c × |residue| ≤ d × |product| + e × [no zero],
 -- `RowSums.sum_bound` carries that to the row at once for all designs, and a row of one pair is that pair. Design 5 promises no
--- fraction, so its coefficients are 0. Assumes nothing.
+-- fraction, so its coefficients are 0.
 use mathlib.Core.Path.{◌≡◌, refl, sym, ap, ap₂, ◌∙◌, subst, subst₂}
 use Prim.Native.Nat.{ℕ, zero, suc, ◌+◌, ◌*◌, ◌^◌, ◌≤◌, ◌<◌}
 use native.Mathlib.Omega.{arith}
@@ -11,6 +11,7 @@ use Rattle.designs.specs.Designs.{Design, mitchell, nearest, staged, truncated, 
 use Rattle.designs.specs.Signs.{negative, signed_product, residue}
 use Rattle.designs.specs.Rows.{report, pairwise, sum_ℤ, sum, nonzero}
 use Rattle.designs.specs.Demand.{Demand, Bounded, Met}
+use Rattle.designs.proofs.Coefficients.{bounded, c, d, e}
 use Rattle.designs.proofs.Distance.{dist, dist-less, within-dist, within-less}
 use Rattle.designs.proofs.MitchellBound.{mitchell-within, mitchell-equal}
 use Rattle.designs.proofs.NearestBound.{nearest-bound, nearest-equal}
@@ -19,28 +20,6 @@ use Rattle.designs.proofs.Sizes.{sign-dist, size-true, true-is}
 use Rattle.designs.proofs.Staged.{left-bound, stages-leave}
 use Rattle.designs.proofs.TruncatedBound.{truncated-within}
 use Rattle.designs.proofs.Zeros.{by_zero, product_is}
-
--- the three coefficients of a design's bound
-abbrev c : Design → ℕ
-c mitchell = 9
-c nearest = 9
-c (staged s) = 4 ^ s
-c (truncated t) = 9 * 2 ^ t
-c (twice_truncated t) = 0
-
-abbrev d : Design → ℕ
-d mitchell = 1
-d nearest = 1
-d (staged s) = 1
-d (truncated t) = 2 ^ t + 18
-d (twice_truncated t) = 0
-
-abbrev e : Design → ℕ
-e mitchell = 0
-e nearest = 0
-e (staged s) = 0
-e (truncated t) = 9 * 2 ^ t
-e (twice_truncated t) = 0
 
 -- one pair of magnitudes
 formula-bound : (D : Design) (A B : ℕ) → 0 < A → 0 < B → c D * dist (A * B) (formula D A B) ≤ d D * (A * B) + e D
@@ -87,13 +66,6 @@ unfolding report residue
 row-bound D ws fs =
     rw (sum-minus ◌*ℤ◌ (signed_product D) ws fs)
     (sum_bound (residue D) (λ w x. nat_abs (w *ℤ x)) nonzero (c D) (d D) (e D) (signed-bound D) ws fs)
-
-bounded : (D : Design) (error T n : ℕ) → c D * error ≤ d D * T + e D * n → Bounded D error T n
-bounded mitchell error T n h = omega arith
-bounded nearest error T n h = omega arith
-bounded (staged s) error T n h = omega arith
-bounded (truncated t) error T n h = h
-bounded (twice_truncated t) error T n h = tt
 
 -- a row of a single pair
 single-error : (D : Design) (x y : ℤ) → nat_abs (report D (x ∷ []) (y ∷ [])).error ≡ dist (nat_abs x * nat_abs y) (product D (nat_abs x) (nat_abs y))

@@ -1,6 +1,6 @@
 -- Operands inside a width of w bits, and their products by any design: unsigned ones are below 2^w and have a product below 2^(2w); signed
 -- ones have sizes up to 2^(w−1) and a product below 2^(2w−1) in size, which 2w bits hold with its sign. Each is a test that was passed, or
--- a law of `Widths` at this w. Assumes nothing.
+-- a law of `Widths` at this w.
 use mathlib.Core.Path.{◌≡◌, subst}
 use Prim.Native.Nat.{ℕ, suc, ◌-◌, ◌*◌, ◌^◌, ◌≤◌, ◌<◌}
 use native.Mathlib.Omega.{arith}

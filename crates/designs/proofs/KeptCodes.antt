@@ -1,6 +1,6 @@
 -- Design 4 by codes with t kept bits. Their sum has the two cases of the design before its carry: with 1 at the last kept bit it is the
 -- code of the product where that is whole, which is where the quotient reaches t; below, nothing was cut, and the carry is less than
--- what is rounded down, so the sum alone is the code of the product. Raised by t, it is whole with the carry everywhere. Assumes nothing.
+-- what is rounded down, so the sum alone is the code of the product. Raised by t, it is whole with the carry everywhere.
 use mathlib.Core.Path.{◌≡◌, sym, ap, ap₂, ◌∙◌}
 use Prim.Native.Nat.{ℕ, suc, ◌+◌, ◌-◌, ◌*◌, ◌/◌, ◌^◌, ◌≤◌, ◌<◌}
 use native.Mathlib.Nat.{eq_of_mul-eq-mul_right, mul_comm, mul-div_cancel, mul-le-mul_right}

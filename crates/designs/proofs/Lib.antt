@@ -2,6 +2,7 @@ pub mod Cases
 pub mod Lists
 pub mod Refusals
 pub mod Settings
+pub mod Tells
 pub mod Outside
 pub mod Parts
 pub mod Differences
@@ -24,6 +25,7 @@ pub mod Sizes
 pub mod Accepted
 pub mod RowSums
 pub mod Worst
+pub mod Coefficients
 pub mod Demand
 pub mod WorstPair
 pub mod Prefixes

@@ -1,5 +1,5 @@
 -- A test of every number of a list, or of every number below one: it is computed where the numbers are known, and then holds of each that
--- is found in the list, or is below. Both go by the numbers, one after the other. Assumes nothing.
+-- is found in the list, or is below. Both go by the numbers, one after the other.
 use mathlib.Core.Path.{◌≡◌, sym, subst}
 use Prim.Native.Nat.{ℕ, zero, suc, ◌<◌}
 use native.Mathlib.Nat.{le_antisymm, le_of_suc-le-suc, not-suc-le-zero}

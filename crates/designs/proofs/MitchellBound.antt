@@ -1,5 +1,5 @@
 -- Design 1 is within a ninth: what it falls short by, a × b or its carried counterpart, is at most a ninth of (P + a) × (Q + b),
--- and exactly a ninth where both fractions are a half. Assumes nothing.
+-- and exactly a ninth where both fractions are a half.
 use mathlib.Core.Path.{◌≡◌, sym, ap, ◌∙◌, subst₂}
 use mathlib.Core.Logic.{◌↔◌}
 use Prim.Native.Nat.{ℕ, ◌+◌, ◌-◌, ◌*◌, ◌^◌, ◌≤◌, ◌<◌}

@@ -1,6 +1,6 @@
 -- Design 2. An operand A stands below the power P taken for it by at most A / 3, or above it by less than A / 3 (`Near`).
 -- In integers the product is A × Q + B × P − P × Q, which `Near` keeps from falling below 0, and its residue is q × r.
--- Assumes nothing.
+--
 use mathlib.Core.Path.{◌≡◌, sym, ap, ◌∙◌, subst}
 use Prim.Native.Nat.{ℕ, ◌+◌, ◌-◌, ◌*◌, ◌^◌, ◌≤◌, ◌<◌}
 use native.Mathlib.Nat.{mul-le-mul, mul-le-mul_left, mul-le-mul_right}

@@ -1,5 +1,5 @@
 -- Design 2 is within a ninth: its residue is a product of two offsets, each at most a third of its operand (`Near`), and
--- a third exactly where the operand is three quarters of its power. Assumes nothing.
+-- a third exactly where the operand is three quarters of its power.
 use mathlib.Core.Path.{◌≡◌}
 use mathlib.Core.Logic.{◌↔◌}
 use Prim.Native.Nat.{ℕ, ◌-◌, ◌*◌, ◌^◌, ◌≤◌, ◌<◌}

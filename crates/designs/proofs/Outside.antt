@@ -1,6 +1,6 @@
 -- What 4 and 20 tell of the operands of a product, whatever the design, the width and the setting: 4 that the first is outside the width,
 -- and 20 that the first is inside and the second is not. The refusals that are tried before those of the operands have smaller numbers, and
--- the rest goes by cases. Assumes nothing.
+-- the rest goes by cases.
 use mathlib.Core.Path.{◌≡◌, refl, subst}
 use Prim.Native.Nat.{ℕ, zero, suc}
 use native.Mathlib.Omega.{arith}
@@ -13,10 +13,7 @@ use Rattle.designs.specs.Signs.{signed_product}
 use Rattle.designs.specs.Outcomes.{refused, Refusal, first, unless_refused}
 use Rattle.designs.specs.Products.{design_of, setting_refusals, operand_refusals, refusals, inside_unsigned, inside_signed, unsigned_outcome, signed_outcome}
 use Rattle.designs.proofs.Refusals.{among, of-first, of-second, refused-with}
-
--- what a number tells, where it is known of each operand whether it is inside
-abbrev pub Tells : ℕ → Bool → Bool → Type 0
-Tells n a-inside b-inside = (n ≡ 4 → a-inside ≡ false) × (n ≡ 20 → (a-inside ≡ true) × (b-inside ≡ false))
+use Rattle.designs.proofs.Tells.{Tells}
 
 operands-tell : (a-inside b-inside : Bool) → Tells (first (operand_refusals a-inside b-inside)) a-inside b-inside
 unfolding first operand_refusals

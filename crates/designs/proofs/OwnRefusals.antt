@@ -1,5 +1,5 @@
 -- A row by one design meets 3, 5, 6 and 7 alone, in this order: of the number of a design the first test of a row fails, and those after it
--- are the row's own. Assumes nothing.
+-- are the row's own.
 use mathlib.Core.Path.{◌≡◌, refl}
 use Prim.Native.Nat.{ℕ}
 use mathlib.Core.Bool.{true}

@@ -1,6 +1,6 @@
 -- The first refusal of a list that applies. Where it is 0, no test of the list holds; where it is not, it is one of the list's numbers;
 -- and of a list in two parts it is that of the first part, or, where nothing there applies, that of the second. Each law goes by the
--- list's tests, one after the other. Assumes nothing.
+-- list's tests, one after the other.
 use mathlib.Core.Path.{◌≡◌, refl, sym, ap, ◌∙◌}
 use Prim.Native.Nat.{ℕ, zero, suc, ◌<◌}
 use native.Mathlib.Omega.{arith}

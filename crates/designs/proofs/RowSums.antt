@@ -1,5 +1,5 @@
 -- A bound c × |residue| ≤ d × |product| + e × [no zero] on each pair is the same bound on the row, by induction on its pairs:
--- the size of a sum is at most the sum of the sizes. Assumes nothing.
+-- the size of a sum is at most the sum of the sizes.
 use mathlib.Core.Path.{◌≡◌, refl, ap, ◌∙◌}
 use Prim.Native.Nat.{ℕ, ◌+◌, ◌*◌, ◌≤◌}
 use native.Mathlib.Nat.{mul-le-mul_left}

@@ -1,5 +1,5 @@
 -- What a setting that is accepted gives: a width has 1 to 32 bits, which is computed over the whole list of widths, and at such a width
--- designs 4 and 5 keep at least one bit and at most 31, by the tests that were passed. Assumes nothing.
+-- designs 4 and 5 keep at least one bit and at most 31, by the tests that were passed.
 use mathlib.Core.Path.{◌≡◌}
 use Prim.Native.Nat.{ℕ, ◌-◌, ◌≤◌, ◌<◌}
 use native.Mathlib.Omega.{arith}

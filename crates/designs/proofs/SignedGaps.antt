@@ -1,5 +1,5 @@
 -- Integers as a sign and a difference of naturals. A residue and a number less a power are both `signed_gap`, a less b with its sign
--- turned or not, so an identity of residues becomes one of naturals, whatever the signs. Assumes nothing.
+-- turned or not, so an identity of residues becomes one of naturals, whatever the signs.
 use mathlib.Core.Path.{◌≡◌, refl, sym, ap, ap₂, ◌∙◌}
 use Prim.Native.Nat.{ℕ, ◌+◌, ◌*◌}
 use native.Mathlib.Omega.{arith}

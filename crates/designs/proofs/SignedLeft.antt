@@ -1,5 +1,5 @@
 -- Design 3 on signed operands: what s stages leave keeps the operand's sign, and the residue is the product of what they leave of both.
--- One stage takes the leading power off, with the sign. Assumes nothing.
+-- One stage takes the leading power off, with the sign.
 use mathlib.Core.Path.{◌≡◌, refl, sym, ap, ap₂, ◌∙◌}
 use Prim.Native.Nat.{ℕ, zero, suc, ◌+◌, ◌*◌, ◌^◌, ◌≤◌}
 use native.Mathlib.Omega.{arith}

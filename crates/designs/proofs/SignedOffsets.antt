@@ -1,6 +1,6 @@
 -- Design 2 on signed operands. The product and what the powers leave add up without a case for a zero, whose power is 0 here; so the
 -- residue is the product of each operand less its power, both with the operand's sign, and the product is the sum of two by design 1.
--- Assumes nothing.
+--
 use mathlib.Core.Path.{◌≡◌, refl, sym, ap, ap₂, ◌∙◌}
 use Prim.Native.Nat.{ℕ, zero, suc, ◌+◌, ◌*◌, ◌^◌, ◌≤◌, ◌<◌}
 use native.Mathlib.Omega.{arith}

@@ -1,5 +1,5 @@
 -- The inequalities behind the ninth, over any P and Q in the place of the powers of two. All rest on 4xy ≤ (x + y)², with
--- equality where x = y: a fraction a/P and its complement make a product of at most a quarter. Assumes nothing.
+-- equality where x = y: a fraction a/P and its complement make a product of at most a quarter.
 use mathlib.Core.Path.{◌≡◌, sym, ap, ◌∙◌, subst}
 use Prim.Native.Nat.{ℕ, suc, ◌+◌, ◌-◌, ◌*◌, ◌≤◌, ◌<◌}
 use native.Mathlib.Nat.{le_of_lt, add-sub_of_le, mul-pos, le_of_mul-le-mul_left, lt_of_mul-lt-mul_left, eq_of_mul-eq-mul_right, le_antisymm, mul_comm, add_comm, mul-le-mul, mul-le-mul_right}

@@ -1,4 +1,4 @@
--- A number is three times a power of two exactly when its fraction is a half: 2 × a = 2^k. Assumes nothing.
+-- A number is three times a power of two exactly when its fraction is a half: 2 × a = 2^k.
 use mathlib.Core.Path.{◌≡◌, sym, ap, subst}
 use Prim.Native.Nat.{ℕ, zero, suc, ◌+◌, ◌*◌, ◌^◌, ◌<◌}
 use native.Mathlib.Omega.{arith}

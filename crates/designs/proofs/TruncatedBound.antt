@@ -1,5 +1,5 @@
 -- Design 4's bound, from design 1's. In units of 1 / 2^t the kept fractions and the carry move design 1's sum by at most one unit,
--- so its product moves by at most two (`Carried.carried-close`), and one more is lost by rounding down. Assumes nothing.
+-- so its product moves by at most two (`Carried.carried-close`), and one more is lost by rounding down.
 use mathlib.Core.Path.{sym, subst₂}
 use Prim.Native.Nat.{ℕ, ◌+◌, ◌*◌, ◌/◌, ◌^◌, ◌≤◌, ◌<◌}
 use native.Mathlib.Nat.{div-mul-le_self, le_of_lt, lt-div-mul-add, mul_comm, mul-le-mul_left, mul-le-mul_right, mul-pos}

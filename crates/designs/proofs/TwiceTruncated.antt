@@ -1,6 +1,6 @@
 -- Design 5 stays below 4 × 2^k × 2^m. Design 4 is at most twice the true product, so the second stage gives at most 2 × x × y on what is
 -- left, x and y; where S < 2^t both stages are below 2 × 2^k × 2^m, and else the second has room for what the fractions lack of 1.
--- Assumes nothing.
+--
 use mathlib.Core.Path.{◌≡◌, sym, ap, ◌∙◌, subst, subst₂}
 use Prim.Native.Nat.{ℕ, ◌+◌, ◌-◌, ◌*◌, ◌^◌, ◌≤◌, ◌<◌}
 use native.Mathlib.Nat.{add-sub_of_le, sub-add_cancel, div-le_of_le-mul, div-mul-le_self, lt_of_mul-lt-mul_left, mul-le-mul, mul-le-mul_left, mul-le-mul_right, le_of_mul-le-mul_left, mul-pos}

@@ -1,5 +1,5 @@
 -- A product of u-bit and v-bit magnitudes has at most u + v bits, in every design and setting: designs 1 and 3 fall short of the
--- true product, design 2 of a product of powers or of the true one, and designs 4 and 5 of 4 × 2^(k+m). Assumes nothing.
+-- true product, design 2 of a product of powers or of the true one, and designs 4 and 5 of 4 × 2^(k+m).
 use mathlib.Core.Path.{◌≡◌, ap, subst}
 use Prim.Native.Nat.{ℕ, ◌+◌, ◌*◌, ◌^◌, ◌≤◌, ◌<◌}
 use native.Mathlib.Nat.{mul-le-mul, mul-le-mul_left, mul-le-mul_right, div-lt_iff_lt-mul, mul-pos, le_antisymm}

@@ -1,5 +1,5 @@
 -- The worst of some numbers. One number more in front either is worse than the rest or leaves its worst one place further on, so the
--- definitions give it; and as many more behind either keep it or have a worse one, which is how a loop finds it. Assumes nothing.
+-- definitions give it; and as many more behind either keep it or have a worse one, which is how a loop finds it.
 use mathlib.Core.Path.{◌≡◌, refl, sym, ap, subst, ◌∙◌}
 use Prim.Native.Nat.{ℕ, zero, suc, ◌+◌, ◌-◌, ◌≤◌, ◌<◌}
 use native.Mathlib.Nat.{le_of_lt, le_trans, max-eq_left, max-eq_right}

@@ -1,5 +1,5 @@
 -- What the last two fields of every report say. They are the worst of the residues by their definitions; and a pair with a zero leaves
--- nothing, so of the others, which are n, each adds at most the largest size to the error. Assumes nothing.
+-- nothing, so of the others, which are n, each adds at most the largest size to the error.
 use mathlib.Core.Path.{◌≡◌, ap, ◌∙◌}
 use Prim.Native.Nat.{ℕ, zero, suc, ◌*◌, ◌≤◌}
 use native.Mathlib.Nat.{mul-le-mul_right}

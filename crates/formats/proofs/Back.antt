@@ -1,5 +1,5 @@
 -- The fields of a pattern that is made of a sign, an exponent field and a fraction field are those three, in any format: the pattern
--- is their digits, so dividing by the weights brings them back. Assumes nothing.
+-- is their digits, so dividing by the weights brings them back.
 use mathlib.Core.Path.{◌≡◌, refl, ap, ◌∙◌}
 use Prim.Native.Nat.{ℕ, ◌+◌, ◌*◌, ◌/◌, ◌^◌, ◌<◌}
 use native.Mathlib.Nat.{add_comm}

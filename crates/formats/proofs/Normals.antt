@@ -1,5 +1,5 @@
 -- A normal pattern's exponent field is neither 0 nor of ones alone, in any format, by its two tests; so the number is not zero.
--- Assumes nothing.
+--
 use mathlib.Core.Path.{◌≡◌, subst⁻¹}
 use Prim.Native.Nat.{ℕ, ◌≤◌, ◌<◌}
 use native.Mathlib.Omega.{arith}

@@ -1,5 +1,5 @@
 -- A pattern of binary32 stands for a number of the kit's `lib.Ieee`. The fields that are read there are those of `Formats`, so no
--- finite pattern is a NaN's and each is brought back by `to_bits`, and a normal one has the value size / unit. Assumes nothing.
+-- finite pattern is a NaN's and each is brought back by `to_bits`, and a normal one has the value size / unit.
 use mathlib.Core.Path.{◌≡◌, refl, sym, ap, ◌∙◌, subst}
 use Prim.Native.Nat.{ℕ, zero, suc, ◌+◌, ◌*◌, ◌/◌, ◌^◌, ◌≤◌, ◌<◌}
 use native.Mathlib.Nat.{eq_of_mul-eq-mul_right, pow-succ'}

@@ -1,5 +1,5 @@
 -- A number of 16 bits in two bytes. 128 more, divided by 256 and rounded down, is the quotient to the nearest whole number, so that what it
--- leaves is at most 128 to either side. Assumes nothing.
+-- leaves is at most 128 to either side.
 use Rattle.std.proofs.Common.{◌≡◌, suc, ◌+◌, ◌-◌, ◌*◌, ◌/◌, ◌^◌, ◌<◌, ◌≤◌, true, false, ℤ, pos, negsuc, ◌+ℤ◌, ◌-ℤ◌, ◌*ℤ◌, nat_abs, ap, ◌∙◌, arith}
 use lib.IntN.{+ℤ_comm, +ℤ_idr, -ℤ-+ℤ_cancel}
 use lib.Signed.{mag, shr_z}

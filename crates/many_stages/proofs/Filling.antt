@@ -1,5 +1,5 @@
 -- Loops over places for codes. One turn more is one code more; and where a power is taken off each number, one code and one pattern of what is
--- left. Assumes nothing.
+-- left.
 use Rattle.std.proofs.Common.{◌≡◌, ℕ, ◌+◌, ◌^◌, ◌<◌, ◌≤◌, List, length, get_or, set, ℤ, ◌-ℤ◌, nat_abs, refl, ◌∙◌, arith, length-set, get_or-set_other, get_or-set_same}
 use Rattle.designs.proofs.Cases.{either_lt}
 use Rattle.patterns.specs.Patterns.{raised_of}

@@ -1,5 +1,5 @@
 -- A strip of the frame. Each run of powers that are taken off adds 128 places with codes and leaves the places before, so that after m runs and
--- the last there are the codes of m + 1 powers. Assumes nothing.
+-- the last there are the codes of m + 1 powers.
 use Rattle.std.proofs.Common.{◌≡◌, ℕ, zero, suc, ◌+◌, ◌*◌, ◌^◌, ◌<◌, ◌≤◌, List, length, get_or, ℤ, ◌-ℤ◌, nat_abs, sym, refl, ap, ◌∙◌, subst, add-one, arith}
 use lib.Signed.{mag}
 use Rattle.designs.specs.Signs.{left_ℤ}

@@ -1,6 +1,6 @@
 -- The signed powers of two that a number is the sum of. The power that is taken off is never the number, and what it leaves has no more bits, so
 -- that neither grows; that what three of them leave of a byte, and five of a number of 11 bits, is a power itself is computed for every such
--- number. Assumes nothing.
+-- number.
 use Rattle.std.proofs.Common.{◌≡◌, ℕ, zero, suc, ◌+◌, ◌-◌, ◌*◌, ◌^◌, ◌<◌, ◌≤◌, Bool, cond, ◌&&◌, T, eqb, ℤ, pos, negsuc, ◌-ℤ◌, neg_ℤ, nat_abs, sym, refl, ap, ◌∙◌, le_antisymm, arith, eqb→eq, pow_pos, pow_mono, pow-add, eqb-true}
 use borrow.Author.Tests.{eqb-false}
 use lib.Ieee.Fits.{and_l, and_r}

@@ -1,5 +1,5 @@
 -- What the offsets of weights add, as the code adds it up: each number of the machine is the integer that it stands for, since none is large.
--- Assumes nothing.
+--
 use Rattle.std.proofs.Common.{◌≡◌, ℕ, ◌+◌, ◌*◌, ◌^◌, ◌<◌, ◌≤◌, ℤ, pos, ◌+ℤ◌, ◌-ℤ◌, ◌*ℤ◌, neg_ℤ, nat_abs, sym, ap, ap₂, mul-le-mul_right, arith, w32, w64, SFits, to_z, of_z}
 use lib.Signed.{mag}
 use Rattle.designs.proofs.Differences.{add-gap, as-gap, Gap, gap-eq, mul-gap, whole}

@@ -1,5 +1,5 @@
 -- Loops over the raised patterns of numbers: one turn more is one pattern more, whatever a number becomes; and a sum of numbers, turn by
--- turn. Assumes nothing.
+-- turn.
 use Rattle.std.proofs.Common.{◌≡◌, ℕ, ◌+◌, ◌^◌, ◌<◌, ◌≤◌, List, length, get_or, set, ℤ, ◌+ℤ◌, nat_abs, sym, refl, ap, ◌∙◌, ap₂, arith, to_z-of_z, w16, w32, SFits, to_z, of_z, below_more}
 use lib.Signed.{mag, nat_abs-le}
 use Rattle.pairs.proofs.Integers.{sized}

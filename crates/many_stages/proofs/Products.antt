@@ -1,5 +1,5 @@
 -- The products of a strip. A number with its offset is not 0, and its products with the powers of a number of the frame are at the places of their
--- codes; sums of up to 128 products of 24 bits fit an i32. Assumes nothing.
+-- codes; sums of up to 128 products of 24 bits fit an i32.
 use Rattle.std.proofs.Common.{◌≡◌, ℕ, suc, ◌+◌, ◌-◌, ◌*◌, ◌^◌, ◌<◌, ◌≤◌, List, length, get_or, ℤ, pos, negsuc, ◌+ℤ◌, ◌*ℤ◌, nat_abs, sym, refl, ap, ◌∙◌, ap₂, mul-le-mul, arith, w32, w64, SFits, to_z, of_z}
 use lib.Signed.{mag, nat_abs-le}
 use Rattle.designs.specs.Codes.{code}

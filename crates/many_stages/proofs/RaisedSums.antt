@@ -1,5 +1,5 @@
 -- Sums and differences of two raised patterns as floats, in one law: an operation on floats that is exact on numbers of at most 24 bits, and
--- whose result is no larger than both numbers together, has the raised pattern of the result. Assumes nothing.
+-- whose result is no larger than both numbers together, has the raised pattern of the result.
 use Rattle.std.proofs.Common.{◌≡◌, ℕ, ◌+◌, ◌^◌, ◌<◌, ◌≤◌, not, T, ℤ, ◌-ℤ◌, neg_ℤ, nat_abs, ◌∙◌, ap₂, arith}
 use lib.Ieee.{binary32, binary64, Float, is_nan, nan_bits, of_bits, of_int, to_bits}
 use lib.Ieee.Bits.{nan_bits_is}

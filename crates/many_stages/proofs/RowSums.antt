@@ -1,5 +1,5 @@
 -- The sum of a row and a strip. By design 3 a product is the true one less that of what the stages leave of both numbers; so the sum of the true
--- products, less that of what is left and less what the offsets add to both, is that of the design's products. Assumes nothing.
+-- products, less that of what is left and less what the offsets add to both, is that of the design's products.
 use Rattle.std.proofs.Common.{◌≡◌, ℕ, ◌*◌, ◌^◌, ◌<◌, ◌≤◌, min, List, length, ℤ, pos, ◌+ℤ◌, ◌-ℤ◌, ◌*ℤ◌, neg_ℤ, nat_abs, sym, ap, ◌∙◌, mul-le-mul, arith, w64, SFits}
 use lib.Signed.{mag, nat_abs-le}
 use Rattle.designs.specs.Designs.{staged}

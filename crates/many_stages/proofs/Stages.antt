@@ -1,5 +1,5 @@
 -- What stages of design 3 leave of a number of 16 bits has 16 bits, and after four stages at most 11, as each stage leaves less than half. The
--- stages of two runs are those of one. Assumes nothing.
+-- stages of two runs are those of one.
 use Rattle.std.proofs.Common.{◌≡◌, ℕ, zero, suc, ◌+◌, ◌-◌, ◌*◌, ◌^◌, ◌<◌, ◌≤◌, ℤ, pos, negsuc, nat_abs, sym, ap, ◌∙◌, arith}
 use lib.Signed.{mag, nat_abs-le}
 use Rattle.designs.specs.Designs.{rest}

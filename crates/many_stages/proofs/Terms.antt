@@ -1,6 +1,6 @@
 -- Products with signed powers of two, added up. The raised pattern of a number and the code of a power add up to the pattern of their product,
 -- which is whole; and the sums over the powers of a number, one after the other, are the products with what these powers make, so that all stay
--- below 2^24 and no float is rounded. Assumes nothing.
+-- below 2^24 and no float is rounded.
 use Rattle.std.proofs.Common.{◌≡◌, ℕ, suc, ◌+◌, ◌*◌, ◌%◌, ◌^◌, ◌<◌, ◌≤◌, Bool, true, false, not, ◌&&◌, T, ℤ, ◌+ℤ◌, ◌-ℤ◌, ◌*ℤ◌, neg_ℤ, nat_abs, sym, ap, ◌∙◌, subst, ap₂, le_trans, mul-le-mul_right, mul-le-mul_left, arith, pow_pos, pow_mono, pow-add, to_z-of_z, w32, to_z, of_z}
 use lib.Ieee.{Float, add, binary32, binary64, fits, in_signed, is_nan, nan_bits, of_bits, of_int, to_signed, unlike}
 use lib.Ieee.Bits.{nan_bits_is}

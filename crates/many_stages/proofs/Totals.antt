@@ -1,5 +1,5 @@
 -- Sums of products of which each number has an offset: what the offsets add is taken off. By induction, with an identity of integers that is one of
--- naturals once each is a difference. Assumes nothing.
+-- naturals once each is a difference.
 use Rattle.std.proofs.Common.{◌≡◌, ℕ, zero, suc, ℤ, pos, ◌+ℤ◌, ◌-ℤ◌, ◌*ℤ◌, refl, ◌∙◌, ap₂, arith}
 use Rattle.designs.proofs.Differences.{add-gap, as-gap, Gap, gap-eq, joined-more, mul-gap, neg-gap, whole}
 use Rattle.blocks.specs.Counts.{total}

@@ -1,5 +1,5 @@
 -- A loop that fills a block place by place: one turn more is one place more. Stages keep the numbers small, and one stage after k
--- is k + 1. Each law goes place by place. Assumes nothing.
+-- is k + 1. Each law goes place by place.
 use Rattle.std.proofs.Common.{◌≡◌, ℕ, ◌+◌, ◌-◌, ◌^◌, ◌<◌, ◌≤◌, List, length, set, ℤ, pos, nat_abs, sym, refl, ap, ◌∙◌, subst, le_antisymm, add-one, arith, length-set, get_or-set_other, get_or-set_same, le-ltb, lt-ltb}
 use native.Mathlib.Nat.{add-sub_cancel_left}
 use Rattle.designs.proofs.Cases.{either_lt}

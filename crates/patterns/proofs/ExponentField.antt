@@ -1,5 +1,5 @@
 -- The sign and the exponent field of a pattern alone are the pattern of a power of two, with the sign. It is the leading power of the
--- number; half of the field's last place, added before, makes it the nearest power, since it carries from one half up. Assumes nothing.
+-- number; half of the field's last place, added before, makes it the nearest power, since it carries from one half up.
 use Rattle.std.proofs.Common.{◌≡◌, ℕ, zero, suc, ◌+◌, ◌-◌, ◌*◌, ◌/◌, ◌%◌, ◌^◌, ◌<◌, ◌≤◌, Bool, true, false, ℤ, pos, negsuc, ◌-ℤ◌, ◌*ℤ◌, neg_ℤ, nat_abs, sym, refl, ap, ◌∙◌, ap₂, add-zero, mul-le-mul_left, arith, pow_pos, pow_mono, w32, SFits}
 use lib.Bits.{bit_and, and_high}
 use Rattle.designs.specs.Codes.{code, scaled_product}

@@ -1,5 +1,5 @@
 -- Design 4 by patterns. Masked, a pattern is the code with t kept bits, above the sign; and the sum of two, with its carry, is a
--- logarithm of the product (`designs` `KeptCodes.kept-scaled`). Assumes nothing.
+-- logarithm of the product (`designs` `KeptCodes.kept-scaled`).
 use Rattle.std.proofs.Common.{◌≡◌, ℕ, ◌+◌, ◌-◌, ◌*◌, ◌/◌, ◌%◌, ◌^◌, ◌<◌, ◌≤◌, max, Bool, true, false, cond, ltb, ℤ, ◌*ℤ◌, nat_abs, sym, ap, ◌∙◌, subst, ap₂, mul-le-mul_right, mul_comm, arith, pow_pos, pow_mono, le-ltb, lt-ltb}
 use native.Mathlib.Nat.{add-mul-div_right, max-eq_right, min-eq_left}
 use lib.Bits.{bit_and, and_high, and_zero_l}

@@ -1,4 +1,4 @@
--- Design 1 by patterns: the sum of two codes is a logarithm of the product (`designs` `Codes.scaled`). Assumes nothing.
+-- Design 1 by patterns: the sum of two codes is a logarithm of the product (`designs` `Codes.scaled`).
 use Rattle.std.proofs.Common.{◌≡◌, ℕ, ◌+◌, ◌*◌, ◌%◌, ◌^◌, ◌<◌, ◌≤◌, ℤ, ◌*ℤ◌, nat_abs, ◌∙◌, ap₂, arith}
 use Rattle.designs.specs.Codes.{code}
 use Rattle.designs.specs.Designs.{formula, mitchell}

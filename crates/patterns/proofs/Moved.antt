@@ -1,5 +1,5 @@
 -- The pattern of x × 2^16. It has 16 more in its exponent field than that of x, and no more digits, so that a binary32 holds the number.
--- Assumes nothing.
+--
 use Rattle.std.proofs.Common.{◌≡◌, ℕ, zero, suc, ◌+◌, ◌*◌, ◌%◌, ◌^◌, ◌<◌, ◌≤◌, Bool, true, false, T, ℤ, pos, negsuc, ◌*ℤ◌, neg_ℤ, nat_abs, sym, refl, ap, ◌∙◌, arith, to_z-of_z, w16, SFits, to_z, of_z}
 use lib.Ieee.{binary32, binary64, fits, of_int, to_bits}
 use lib.Signed.{mag}

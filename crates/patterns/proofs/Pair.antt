@@ -1,5 +1,5 @@
 -- The pattern of a pair's product. A logarithm of the design's product, with the sign that both numbers give, stands for the signed
--- product, and a masked zero for 0; the difference to the true product is the residue, of at most 31 bits. Assumes nothing.
+-- product, and a masked zero for 0; the difference to the true product is the residue, of at most 31 bits.
 use Rattle.std.proofs.Common.{◌≡◌, ℕ, zero, suc, ◌+◌, ◌*◌, ◌%◌, ◌^◌, ◌<◌, ◌≤◌, Bool, true, false, ℤ, pos, negsuc, ◌-ℤ◌, ◌*ℤ◌, nat_abs, sym, refl, ap, ◌∙◌, ap₂, mul-le-mul, arith, w32, SFits, to_z, of_z}
 use lib.Ieee.{unlike}
 use lib.Signed.{mag}

@@ -1,5 +1,5 @@
 -- Raised patterns as floats, each the float of its number times 2^16. Sums and differences of two are exact and have the patterns of the sum
--- and of the difference; so has what a stage of design 3 leaves, a number less its leading power. Assumes nothing.
+-- and of the difference; so has what a stage of design 3 leaves, a number less its leading power.
 use Rattle.std.proofs.Common.{◌≡◌, ◌*◌, ◌^◌, ◌<◌, ◌≤◌, not, T, ℤ, ◌+ℤ◌, ◌-ℤ◌, nat_abs, sym, ap, ◌∙◌, ap₂, arith}
 use lib.Ieee.{add, binary32, binary64, Float, is_nan, of_bits, of_int, sub, to_bits}
 use lib.Ieee.Bits.{of_bits-to_bits}

@@ -1,6 +1,6 @@
 -- Design 5 by patterns of sizes. The cut patterns less their exponent fields say whether S < 2^t; what the first stage leaves of a number
 -- are its low bits, or these turned; and the second stage, read two places higher, is a whole number. It has 31 bits: what is left of a
--- number has a leading power below the number's own, and of two numbers of 2^15 nothing is left. Assumes nothing.
+-- number has a leading power below the number's own, and of two numbers of 2^15 nothing is left.
 use Rattle.std.proofs.Common.{◌≡◌, ℕ, zero, suc, ◌+◌, ◌-◌, ◌*◌, ◌/◌, ◌%◌, ◌^◌, ◌<◌, ◌≤◌, Bool, true, false, pos, sym, refl, ap, ◌∙◌, ap₂, le_antisymm, mul-le-mul_left, mul-pos, sub-add_cancel, arith, pow_pos, pow_mono, lt-ltb, eq-eqb, ne_eqb}
 use mathlib.Core.Bool.{false≢true}
 use lib.Arith.{digits_mod}

@@ -1,5 +1,5 @@
 -- The number that a pattern with a logarithm stands for. Its fields are those of the logarithm, so it has the value that `formats` gives
--- such fields; and a float of a format with a whole value is the float of that number, read either way. Assumes nothing.
+-- such fields; and a float of a format with a whole value is the float of that number, read either way.
 use Rattle.std.proofs.Common.{◌≡◌, ℕ, zero, suc, ◌+◌, ◌*◌, ◌/◌, ◌%◌, ◌^◌, ◌<◌, ◌≤◌, Bool, true, false, not, T, ℤ, pos, negsuc, nat_abs, sym, refl, ap, ◌∙◌, subst, mul-pos, arith, le→leb, lt→ltb, pow_pos, pow-add}
 use lib.Signed.{mag}
 use lib.Ieee.{Float, Format, binary32, binary64, fin, inf, nan, fits, in_float, in_signed, is_nan, of_bits, of_int, prec, to_bits, to_signed}

@@ -1,5 +1,5 @@
 -- Sums and differences of floats of whole numbers. Each is the sum of the numbers, rounded; and a number of at most 24 bits, or 2^24, times a
--- power of two is a binary32, so that nothing is rounded off. Assumes nothing.
+-- power of two is a binary32, so that nothing is rounded off.
 use Rattle.std.proofs.Common.{◌≡◌, ℕ, zero, suc, ◌+◌, ◌-◌, ◌*◌, ◌^◌, ◌<◌, ◌≤◌, Bool, true, false, cond, not, ◌&&◌, ltb, ℤ, pos, negsuc, ◌+ℤ◌, ◌-ℤ◌, ◌*ℤ◌, neg_ℤ, nat_abs, sym, refl, ap, ◌∙◌, subst, ap₂, le_trans, le_of_eq, mul-le-mul_right, add-mul, mul-le-mul, le_antisymm, mul-pos, zero-mul, arith, pow_pos, pow_mono, pow-add, le-ltb, lt-ltb}
 use lib.Ieee.{add, binary32, binary64, down, fin, inf, nan, Float, Format, neg, of_int, round, sub, sum, up}
 use lib.Ieee.Back.{whole_unique}

@@ -8,7 +8,8 @@ use mathlib.Core.List.{List}
 use lib.ListN.{get_or}
 use Rattle.designs.specs.Outcomes.{refused}
 use Rattle.designs.specs.Products.{inside_signed}
-use Rattle.designs.proofs.Outside.{Tells, signed-tells}
+use Rattle.designs.proofs.Outside.{signed-tells}
+use Rattle.designs.proofs.Tells.{Tells}
 use Rattle.records.specs.Fields.{field8, field16, signed}
 use Rattle.records.specs.Kinds.{signed_record}
 use Rattle.records.proofs.TwosComplement.{signed-inside}

@@ -1,5 +1,5 @@
 -- A block of pairs more. Twice the sizes of the products below 0, taken from the sizes of all, leaves the true sum; and the block's largest
--- residue is the row's so far where it is larger than all before it. Assumes nothing.
+-- residue is the row's so far where it is larger than all before it.
 use mathlib.Core.Path.{◌≡◌, refl, sym, ap, ap₂, ◌∙◌, subst}
 use Prim.Native.Nat.{ℕ, zero, suc, ◌+◌, ◌-◌, ◌*◌, ◌≤◌, ◌<◌}
 use native.Mathlib.Omega.{arith}

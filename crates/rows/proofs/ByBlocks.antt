@@ -1,5 +1,5 @@
 -- A row that goes by blocks, by any design. A block takes a part of the row, whose place k is place at + k of the row; so a block that is
--- taken of the part holds the residues of the row's pairs and their sums, and can be added. Assumes nothing.
+-- taken of the part holds the residues of the row's pairs and their sums, and can be added.
 use mathlib.Core.Path.{◌≡◌, refl, ap₂, ◌∙◌, subst}
 use Prim.Native.Nat.{ℕ, min, ◌+◌, ◌-◌, ◌≤◌, ◌<◌}
 use native.Mathlib.Omega.{arith}

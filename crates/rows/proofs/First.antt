@@ -1,5 +1,5 @@
 -- The first place of a block that has a number of some size: with a place more it is the smaller of the first so far and of this place, where
--- the number has the size, or else of 64. Assumes nothing.
+-- the number has the size, or else of 64.
 use mathlib.Core.Path.{◌≡◌}
 use mathlib.Core.Bool.{cond}
 use mathlib.Core.List.{List}

@@ -1,5 +1,5 @@
 -- One pair of 16-bit numbers. Its sizes are at most 2^15, so that its true product has at most 31 bits, and so have the design's product and
--- the residue. Assumes nothing.
+-- the residue.
 use Prim.Native.Nat.{ℕ, ◌^◌, ◌≤◌}
 use native.Mathlib.Omega.{arith}
 use lib.Ieee.{unlike}

@@ -1,6 +1,6 @@
 -- The outcome of a row, by the number n that its judgement gives. A refused row promises nothing of a report and leaves every place; of an
 -- accepted one no test applied, so that its kept bits are ones that the loops serve, and what they complete makes the definition's report,
--- of which the third demand holds. Assumes nothing.
+-- of which the third demand holds.
 use mathlib.Core.Path.{◌≡◌, refl, sym, ap, ◌∙◌, subst}
 use Prim.Native.Nat.{ℕ, zero, suc, ◌≤◌}
 use native.Mathlib.Omega.{arith}

@@ -1,4 +1,4 @@
--- The sums of a row of 16-bit numbers are small: at most 4,096 pairs of at most 2^31 − 1 each stay below 2^43. Assumes nothing.
+-- The sums of a row of 16-bit numbers are small: at most 4,096 pairs of at most 2^31 − 1 each stay below 2^43.
 use mathlib.Core.Path.{◌≡◌, ap}
 use Prim.Native.Nat.{ℕ, ◌^◌, ◌≤◌, ◌<◌}
 use native.Mathlib.Omega.{arith}

@@ -1,5 +1,5 @@
 -- One pair more of a row, for any design. With the pair's true product and residue, what was reached after i pairs becomes what is reached
--- after i + 1; and 4,096 pairs leave room in every sum. Assumes nothing.
+-- after i + 1; and 4,096 pairs leave room in every sum.
 use mathlib.Core.Path.{◌≡◌, refl, sym, ap, ap₂, ◌∙◌, subst}
 use Prim.Native.Nat.{ℕ, ◌+◌, ◌*◌, ◌^◌, ◌≤◌, ◌<◌}
 use native.Mathlib.Nat.{add-zero}

@@ -1,6 +1,6 @@
 -- A row that has been reached whole: the totals over all its pairs are the sums of its report, the worst of its pairs is the report's, and
 -- the places hold its residues, with what stood there behind them. A total grows pair by pair as the sum over a list does, no other pair is
--- the worst, and two lists with the same places are one. Assumes nothing.
+-- the worst, and two lists with the same places are one.
 use mathlib.Core.Path.{◌≡◌, refl, sym, ap, ap₂, ◌∙◌}
 use Prim.Native.Nat.{ℕ, zero, suc, ◌-◌, ◌≤◌, ◌<◌}
 use native.Mathlib.Nat.{le_refl}
