@@ -83,15 +83,6 @@ def boundary_layers(design):
         yield layer_of(design, setting, (rows, columns), (store, frame), next(spares))
 
 
-def many_stage_layers():
-    """Design 3 with few stages and many, few rows and many, and columns at the borders of strips: it goes two ways."""
-    weights, numbers, spares = rotated_operands(), rotated_operands(), itertools.cycle(SPARE_PLACES)
-    for setting, rows, columns in itertools.product((3, 4, 7, 8, 16), (4, 5, BLOCK_ROWS + 1), (127, 128, 129, 257)):
-        store = list(itertools.islice(weights, STORE_NUMBERS))
-        frame = list(itertools.islice(numbers, FRAME_NUMBERS))
-        yield layer_of(STAGED, setting, (rows, columns), (store, frame), next(spares))
-
-
 def single_product_layers():
     """Layers of which each row holds one weight that is not 0, each in a column of its own: a score is then one product, so that no
     two mistakes cancel.  The products are those at the turning points of the designs."""
@@ -180,7 +171,6 @@ def accepted_layers(rng):
         yield figures.LAYER._replace(places=figures.LAYER.places + spare)
     for design in DESIGNS:
         yield from boundary_layers(design)
-    yield from many_stage_layers()
     yield from single_product_layers()
     yield from zero_layers()
     yield from power_layers()

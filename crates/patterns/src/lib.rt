@@ -20,7 +20,8 @@ use crate::powers::offset;
 use crate::sizes::less_size;
 use crate::truncation::{clamp, cut, with_carry};
 use crate::twice::{first_stage, is_low, left_over, second_stage};
-pub use raising::{carried, kept, lead, near, offset_of, raised};
+pub use powers::offset_of;
+pub use raising::{carried, kept, lead, near, raised, raised_offset};
 pub use stages::pairs_left;
 pub use twice::{fraction_of, left_of, room_of};
 

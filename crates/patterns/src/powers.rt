@@ -25,6 +25,13 @@ pub(crate) fn offset(x: i16) -> i32
     less_power(x as i32, HALF)
 }
 
+// The same in 16 bits.
+pub fn offset_of(x: i16) -> i16
+    ensures { result ≡ less_power (2 ^ 22) x }
+{
+    offset(x) as i16
+}
+
 // The leading power of a size; 0 for 0.
 pub(crate) fn lead(n: u32) -> u32
     requires { n ≤ 2 ^ 15 }

@@ -22,7 +22,7 @@ pub fn near(p: u32) -> u32
 }
 
 // That of a number less the power of two that design 2 takes for it. The difference has no more digits than the number, so that it is exact.
-pub fn offset_of(x: i16) -> u32
+pub fn raised_offset(x: i16) -> u32
     ensures { result ≡ raised_of (less_power (2 ^ 22) x) }
 {
     let p = raised(x);

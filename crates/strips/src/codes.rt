@@ -32,7 +32,7 @@ fn power_code(x: i16) -> u32
 fn offset_code(x: i16) -> u32
     ensures { result ≡ offset_code x }
 {
-    code(patterns::offset_of(x))
+    code(patterns::raised_offset(x))
 }
 
 fn kept_code(kept_bits: u32, x: i16) -> u32

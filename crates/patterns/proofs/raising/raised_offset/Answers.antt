@@ -10,8 +10,8 @@ use Rattle.patterns.specs.Patterns.{field_power, less_power, power_of, raised_of
 use Rattle.patterns.proofs.ExponentField.{near-at, offset-size}
 use Rattle.patterns.proofs.Moved.{moved}
 use Rattle.patterns.proofs.Rests.{no_nan, raised-bits, raised-difference, raised-no-nan}
-use Rattle.patterns.proofs.raising.offset_of.Goals as goal
-use Rattle.patterns.proofs.raising.offset_of.Goals.{After-raised-p}
+use Rattle.patterns.proofs.raising.raised_offset.Goals as goal
+use Rattle.patterns.proofs.raising.raised_offset.Goals.{After-raised-p}
 
 -- the number and its power
 module _ (x : ℤ) (size : nat_abs x ≤ 2 ^ 15) where
