@@ -23,7 +23,7 @@ use Rattle.blocks.specs.declared.sums.BlockSums.{BlockSums}
 use Rattle.blocks.proofs.Adding.{added-as, all-added, none-added, roomy, turned}
 
 -- what the loops keep after j of n pairs
-pub record So-far (D : Design) (ws fs before after : List ℤ) (n j : ℕ) (s : BlockSums) : Type 0 where
+pub record SoFar (D : Design) (ws fs before after : List ℤ) (n j : ℕ) (s : BlockSums) : Type 0 where
   pub inside : j ≤ n
   pub residues : Residues D ws fs j before after
   pub adds : Adds (of_pair (residue D) ws fs) (place ws) (place fs) j s
@@ -43,15 +43,15 @@ module _ {D : Design} {w x r : ℤ} (pair : Read D w x r) where
   small keeps = rw read (residue-size D keeps w x (nat_abs-le w pair.weight) (nat_abs-le x pair.number))
 
 module _ {D : Design} {ws fs before : List ℤ} {n : ℕ} where
-  pub begun : {s : BlockSums} → s ≡ no_sums → So-far D ws fs before before n 0 s
+  pub begun : {s : BlockSums} → s ≡ no_sums → SoFar D ws fs before before n 0 s
   begun e = record { inside = omega arith; residues = none_done _ before; adds = rw e (none-added _ _ _) }
 
-  module _ {after : List ℤ} {j : ℕ} {s : BlockSums} {r : ℤ} (so_far : So-far D ws fs before after n j s) (pair : Read D (place ws j) (place fs j) r) where
+  module _ {after : List ℤ} {j : ℕ} {s : BlockSums} {r : ℤ} (so_far : SoFar D ws fs before after n j s) (pair : Read D (place ws j) (place fs j) r) where
     pub ready : KeepsBit D → n ≤ 64 → Roomy s × (nat_abs (to_z w32 (of_z w32 r)) < 2 ^ 31)
     ready keeps few = (roomy so_far.adds (omega (arith, so_far.inside)), small pair keeps)
 
     pub next : {s' : BlockSums} → j < n → j < length before → s' ≡ with_pair s (to_z w16 (of_z w16 (place ws j))) (to_z w16 (of_z w16 (place fs j))) (to_z w32 (of_z w32 r))
-        → So-far D ws fs before (set after j (to_z w32 (of_z w32 r))) n (j + 1) s'
+        → SoFar D ws fs before (set after j (to_z w32 (of_z w32 r))) n (j + 1) s'
     next h room e =
         record {
           inside = omega arith;
@@ -59,22 +59,22 @@ module _ {D : Design} {ws fs before : List ℤ} {n : ℕ} where
           adds = turned so_far.adds pair.weight pair.number (read pair) e;
         }
 
-  pub taken-all : {after : List ℤ} {j : ℕ} {s : BlockSums} → So-far D ws fs before after n j s → n ≤ j → n ≡ taken ws fs → Taken D ws fs before after s
+  pub taken-all : {after : List ℤ} {j : ℕ} {s : BlockSums} → SoFar D ws fs before after n j s → n ≤ j → n ≡ taken ws fs → Taken D ws fs before after s
   taken-all so_far h e =
       record { filled = all_done so_far.residues (omega (arith, so_far.inside)) (omega arith); adds = all-added so_far.adds so_far.inside h e }
 
 -- the same of a loop that only fills
-pub record Filled-so-far (D : Design) (ws fs before after : List ℤ) (n j : ℕ) : Type 0 where
+pub record FilledSoFar (D : Design) (ws fs before after : List ℤ) (n j : ℕ) : Type 0 where
   pub inside : j ≤ n
   pub residues : Residues D ws fs j before after
   pub small : (k : ℕ) → k < j → nat_abs (of_pair (residue D) ws fs k) < 2 ^ 31
 
 module _ {D : Design} {ws fs before : List ℤ} {n : ℕ} where
-  pub none_filled : Filled-so-far D ws fs before before n 0
+  pub none_filled : FilledSoFar D ws fs before before n 0
   none_filled = record { inside = omega arith; residues = none_done _ before; small = λ k h. absurd (omega arith) }
 
-  module _ {after : List ℤ} {j : ℕ} (so_far : Filled-so-far D ws fs before after n j) where
-    pub next-filled : KeepsBit D → {r : ℤ} → Read D (place ws j) (place fs j) r → j < n → j < length before → Filled-so-far D ws fs before (set after j (to_z w32 (of_z w32 r))) n (j + 1)
+  module _ {after : List ℤ} {j : ℕ} (so_far : FilledSoFar D ws fs before after n j) where
+    pub next-filled : KeepsBit D → {r : ℤ} → Read D (place ws j) (place fs j) r → j < n → j < length before → FilledSoFar D ws fs before (set after j (to_z w32 (of_z w32 r))) n (j + 1)
     next-filled keeps pair h room =
         record {
           inside = omega arith;

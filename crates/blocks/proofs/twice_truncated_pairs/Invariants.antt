@@ -2,11 +2,11 @@
 use Rattle.std.proofs.Common.{◌-◌}
 use Rattle.designs.specs.Designs.{twice_truncated}
 use Rattle.patterns.specs.Patterns.{clamped}
-use Rattle.blocks.proofs.Taking.{So-far}
+use Rattle.blocks.proofs.Taking.{SoFar}
 use Rattle.blocks.proofs.twice_truncated_pairs.Given as goal
 
 abbrev pub invariant-loop-j : goal.invariant-loop-j
-invariant-loop-j l = So-far (twice_truncated (clamped l.kept_bits)) l.weights l.frame l.initial.block l.block l.n l.j l.sums
+invariant-loop-j l = SoFar (twice_truncated (clamped l.kept_bits)) l.weights l.frame l.initial.block l.block l.n l.j l.sums
 
 abbrev pub decreases-loop-j : goal.decreases-loop-j
 decreases-loop-j l = l.n - l.j
