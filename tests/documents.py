@@ -54,7 +54,9 @@ def is_in_source(crate, *names):
     for name in names[:-1]:
         source = text(f'{folder}/{name}.rt') or block(f'pub (?:struct|enum) {name}', source) + block(f'impl {name}', source)
     name = re.escape(names[-1])
-    return bool(re.search(rf'\b(?:fn|const|struct|enum|type|mod) {name}\b|^pub use \S+::{name};', source, re.M))
+    # handed on alone, or as one of the names in braces
+    handed_on = rf'^pub use [\w:]+::(?:{name}|\{{(?:[^{{}}]*,)?\s*{name}\s*(?:,[^{{}}]*)?\}});'
+    return bool(re.search(rf'\b(?:fn|const|struct|enum|type|mod) {name}\b|{handed_on}', source, re.M))
 
 
 def is_path(word):

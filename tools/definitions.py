@@ -7,7 +7,7 @@ import pathlib
 import re
 
 root = pathlib.Path(__file__).resolve().parent.parent
-crates = re.findall(r'^(\w+):', (root / 'crates.txt').read_text(), re.M)
+crates = re.findall(r'^(\w+)(?: staticlib)?:', (root / 'crates.txt').read_text(), re.M)
 
 
 def first_sentence(text):
