@@ -61,7 +61,11 @@ def is_in_source(crate, *names):
 
 def is_path(word):
     pattern = ANY.sub('*', word).rstrip('/')
-    return word.startswith('target/') or word in EDITS or any(ROOT.glob(pattern)) or any(ROOT.glob(f'crates/*/{pattern}'))
+    # what is made stands below target/, and of each crate in its folder out
+    crate = re.match(r'crates/(\w+)/out(?:/|$)', word)
+    if word.startswith('target/') or crate and (crate[1] in CRATES or ANY.fullmatch(crate[1])):
+        return True
+    return word in EDITS or any(ROOT.glob(pattern)) or any(ROOT.glob(f'crates/*/{pattern}'))
 
 
 def check_examples():
