@@ -1,26 +1,34 @@
 #!/usr/bin/env python3
-"""Print, as Markdown, what each crate takes of the gate, from what the gate printed: its proofs from nothing, and its must-fail edits.
+"""Print, as Markdown, when the gate had proved each crate and when it began the crate's must-fail edits, in seconds from its start.
 
-Usage: bash .ci/run >LOG; python3 tools/gate_times.py LOG
+Usage: bash .ci/run | python3 tools/gate_times.py
+
+The gate says no times, so this reads what it prints as it comes, and hands it on to standard error. Crates are proved side by side: the
+seconds of one are no cost of its own. A crate that an earlier run on this machine proved is marked as kept.
 """
 import re
 import sys
+import time
 
-if len(sys.argv) != 2:
+if len(sys.argv) != 1 or sys.stdin.isatty():
     sys.exit(__doc__)
-# the tests from outside come after it, and prove a crate again for the archive
-gate = open(sys.argv[1]).read().partition('== proofs, must-fail edits and programs')[2].partition('\n== ')[0]
-proofs = {name: int(seconds) for name, seconds in re.findall(r'^rt: (\w+) proved \((\d+) s\)', gate, re.M)}
-edits = {}
-for name, seconds in re.findall(r'^rt: must-fail (\w+)/.*?; (\d+) s\)$', gate, re.M):
-    edits.setdefault(name, []).append(int(seconds))
-if not proofs:
-    sys.exit(f'{sys.argv[1]} holds no proof of a gate')
-print('| crate | proofs, s | edit files | a file, s | files, s |')
-print('|---|---|---|---|---|')
-for name, seconds in sorted(proofs.items(), key=lambda crate: -sum(edits.get(crate[0], []))):
-    tried = edits.get(name, [])
-    mean = f'{sum(tried) / len(tried):.1f}' if tried else ''
-    print(f'| `{name}` | {seconds} | {len(tried)} | {mean} | {sum(tried)} |')
-everything = sum(edits.values(), [])
-print(f'| all | {sum(proofs.values())} | {len(everything)} | {sum(everything) / len(everything):.1f} | {sum(everything)} |')
+began = time.monotonic()
+proved, edits, files, last = {}, {}, {}, None
+for line in sys.stdin:
+    print(line, end='', file=sys.stderr, flush=True)
+    now = f'{time.monotonic() - began:.0f}'
+    if found := re.match(r'rt: (\w+) (proved$|is kept: )', line):
+        proved[found[1]] = now if found[2] == 'proved' else 'kept'
+    elif found := re.match(r'rt: (\w+): trying its must-fail edits \(\d+\)$', line):
+        edits[found[1]] = now
+    elif found := re.match(r'rt: must-fail (\w+)/', line):
+        files[found[1]] = files.get(found[1], 0) + 1
+    elif re.match(r'\d+ passed, \d+ failed$', line) and last is None:
+        last = now
+if not proved:
+    sys.exit('no proof of a gate was read')
+print('| crate | proved at, s | edits begun at, s | edit files |')
+print('|---|---|---|---|')
+for name, at in proved.items():
+    print(f'| `{name}` | {at} | {edits.get(name, "")} | {files.get(name, 0)} |')
+print(f'| all, with the programs | {last or "not ended"} | | {sum(files.values())} |')

@@ -5,8 +5,9 @@ changed, removed or renamed, how many stayed, and the lines of each crate before
     python3 tools/landing.py OLD NEW [--time]
 
 A file that git finds renamed is the same file, and what differs in a text only by the new name of a crate has stayed. Of definitions and
-contracts, comments and layout do not count. With --time, `rt prove` is run from nothing on a clone of each commit, one after the other,
-and the seconds are printed; the clones are removed afterwards.
+contracts, comments and layout do not count. With --time, `rt all verdict` is run on a clone of each commit, one after the other, and the
+seconds are printed; the clones are removed afterwards. It proves every crate from nothing, where `rt all check` would begin with what other
+checks on this machine kept. A commit that was written for another kit cannot be timed.
 """
 import collections
 import re
@@ -202,14 +203,14 @@ def lines_table(old_files, new_files, names):
 
 
 def seconds(commit):
-    """The time of `rt prove` from nothing, on a clone of its own."""
+    """The time of `rt all verdict`, which proves from nothing, on a clone of its own."""
     with tempfile.TemporaryDirectory() as folder:
         git('clone', '--quiet', '--shared', '--no-checkout', git('rev-parse', '--show-toplevel').strip(), folder)
         git('-C', folder, 'checkout', '--quiet', '--detach', commit)
         began = time.monotonic()
-        done = subprocess.run(['rt', 'prove'], cwd=folder, stdout=subprocess.PIPE, stderr=subprocess.STDOUT, text=True)
+        done = subprocess.run(['rt', 'all', 'verdict'], cwd=folder, stdout=subprocess.PIPE, stderr=subprocess.STDOUT, text=True)
         if done.returncode != 0:
-            sys.exit(f'rt prove fails on {commit}:\n' + '\n'.join(done.stdout.splitlines()[-5:]))
+            sys.exit(f'rt all verdict fails on {commit}:\n' + '\n'.join(done.stdout.splitlines()[-5:]))
         return time.monotonic() - began
 
 
@@ -225,7 +226,7 @@ def main():
     names = crate_names(old_files, moved)
 
     def with_new_names(text):
-        return re.sub(r'(?<=Rattle·)\w+|\b\w+(?=::)', lambda word: names.get(word.group(), word.group()), text)
+        return re.sub(r'(?<=Rattle[.·])\w+|\b\w+(?=::)', lambda word: names.get(word.group(), word.group()), text)
 
     was = {moved.get(path, path): path for path in old_files}
     old_texts = {path: with_new_names(old_files[before]) for path, before in was.items()}
@@ -247,7 +248,7 @@ def main():
     print('\n**Lines**, before and after:\n')
     print('\n'.join(lines_table(old_files, new_files, names)))
     if '--time' in sys.argv:
-        print(f'\n**Time** of `rt prove` from nothing: {seconds(old):.0f} s before, {seconds(new):.0f} s after.')
+        print(f'\n**Time** of `rt all verdict`, from nothing: {seconds(old):.0f} s before, {seconds(new):.0f} s after.')
 
 
 if __name__ == '__main__':
