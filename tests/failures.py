@@ -93,7 +93,8 @@ def try_interrupts(folder):
     file = folder / 'stored'
     with file.open('wb') as output:
         done = subprocess.run([PROGRAM], input=SAMPLE, stdout=output, stderr=subprocess.PIPE, timeout=60, env={**preloaded, 'SYNC_FAILS': '1'})
-    expect('a file that is not stored', (done.returncode, file.read_bytes(), done.stderr), (0, LINES, b'bench: writing standard output: Disk quota exceeded\n'))
+    found = done.returncode, file.read_bytes(), done.stderr
+    expect('a file that is not stored', found, (0, LINES, b'bench: writing standard output: Disk quota exceeded\n'))
 
 
 def try_records(folder):

@@ -64,7 +64,10 @@ def prove():
 
 
 def check(said):
-    """The status of rt run, which proves and builds the bench and runs it on no input. It has a process group of its own, which ends with this command."""
+    """The status of rt run, which proves and builds the bench and runs it on no input.
+
+    It has a process group of its own, which ends with this command.
+    """
     try:
         rt = subprocess.Popen(['rt', 'run'], cwd=CRATE, stdin=subprocess.DEVNULL, stdout=said, stderr=said, start_new_session=True)
     except OSError as problem:
