@@ -11,11 +11,10 @@
  *   HIGHVANE_TRANSCRIPT_MAX bytes. Where a length is 0, its pointer is not followed and may be anything, NULL too.
  * - The buffer that is written (residues, scores, out) overlaps no other argument. Buffers that are only read may overlap or be
  *   the same.
- * - The code is for x86-64 processors that have SSE4.2 (x86-64-v2), and for the System V ABI. It keeps numbers in the 128
- *   bytes below the stack pointer (the red zone) and in the SSE registers. Programs of an operating system need not care. In
- *   a kernel or on the bare machine an interrupt handler that runs on the stack it interrupts would write over those bytes:
- *   call with interrupts off there, or on a stack that no handler uses. A handler that itself calls saves the SSE registers
- *   first and, as for any C, aligns the stack to 16 bytes.
+ * - The code is for x86-64 and its System V ABI. It keeps numbers in the 128 bytes below the stack pointer (the red zone) and in
+ *   the SSE registers. Programs of an operating system need not care. In a kernel or on the bare machine an interrupt handler that
+ *   runs on the stack it interrupts would write over those bytes: call with interrupts off there, or on a stack that no handler
+ *   uses. A handler that itself calls saves the SSE registers first and, as for any C, aligns the stack to 16 bytes.
  *
  * Nothing is kept from one call to the next and nothing is allocated, so threads may call at the same time, each with its own
  * buffer to write to. This file works as C99 or later and as C++98 or later, and as C90 where the compiler is GNU's or like it.

@@ -27,9 +27,9 @@ be lent. Weights, frames, stores, residues, scores and records are lent as they 
 protocol: an array, a memoryview, bytes, a numpy array. Such a buffer has one dimension and no gaps and begins where its items may; the
 residues and the scores can be written, and overlap nothing else that is lent with them.
 
-`tools/archive --shared` makes the shared object, libhighvane.so, for Linux on x86-64 with SSE4.2. The package takes it from the repository's
-folder target, or from the folder that the environment variable HIGHVANE_LIB names; a relative one starts from the current folder. The
-package and the shared object are of one version.
+`tools/archive --shared` makes the shared object, libhighvane.so, for Linux on x86-64. The package takes it from the repository's folder
+target, or from the folder that the environment variable HIGHVANE_LIB names; a relative one starts from the current folder. The package and
+the shared object are of one version.
 """
 from .designs import Design
 from .layers import score_layer

@@ -26,7 +26,7 @@
 //! # Ok::<(), highvane::Refusal>(())
 //! ```
 //!
-//! `tools/archive` makes the archive, for x86-64 with SSE4.2. The build takes it from the repository's `target`, or from the folder that the
+//! `tools/archive` makes the archive, for x86-64. The build takes it from the repository's `target`, or from the folder that the
 //! environment variable `HIGHVANE_LIB` names; a relative folder starts from that of this package's manifest. The package and the
 //! archive are of one version: a call panics where the archive refuses with a number that the package does not know.
 //!
