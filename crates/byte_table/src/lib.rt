@@ -7,7 +7,7 @@ ghost use Rattle.designs.specs.Codes.{scaled_product};
 ghost use Rattle.byte_table.specs.Table.{CodeTable, CodeSum, TableProduct};
 
 // At the place v ≥ 1, with v = 2^k + a, stands its code 128 × k + a × 2^(7−k). The 0 at place 0 is read by no sum.
-static CODES: [u16; 256] = [
+const CODES: [u16; 256] = [
     0, 0, 128, 192, 256, 288, 320, 352, 384, 400, 416, 432, 448, 464, 480, 496, 512, 520, 528, 536,
     544, 552, 560, 568, 576, 584, 592, 600, 608, 616, 624, 632, 640, 644, 648, 652, 656, 660, 664,
     668, 672, 676, 680, 684, 688, 692, 696, 700, 704, 708, 712, 716, 720, 724, 728, 732, 736, 740,
