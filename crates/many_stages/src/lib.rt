@@ -24,8 +24,8 @@ pub const MOST: usize = 4096;
 // leave of it.
 pub(crate) const CODES: usize = 1792;
 
-// What a place holds before it is filled. The bytes of this number differ: equal ones, as those of 0 are, the compiler would set by a call of a C
-// function, which the archive has not.
+// What a place holds before it is filled. The bytes of this number differ: equal ones, as those of 0 are, the compiler would set
+// by one call of memset more.
 pub(crate) const UNSET: u32 = 66051;
 
 // At least four stages, and at most 16.

@@ -9,7 +9,7 @@ use crate::sums::{Sums, add, no_sums};
 use blocks::BLOCK;
 
 // What a place of a block holds before it is filled. The bytes of this number differ: equal ones, as those of 0 are, the compiler would set
-// by a call of a C function, which the archive has not.
+// by one call of memset more.
 const UNSET: i32 = 258;
 
 // By design 1, up to pair `to`. Where there is nothing to do, no block is filled.

@@ -21,8 +21,8 @@ pub const STRIP: usize = 64;
 
 pub const MOST: usize = 4096;
 
-// What a place of the codes holds before it is filled. The bytes of this number differ: equal ones, as those of 0 are, the compiler would set by
-// a call of a C function, which the archive has not.
+// What a place of the codes holds before it is filled. The bytes of this number differ: equal ones, as those of 0 are, the compiler would set
+// by one call of memset more.
 pub(crate) const UNSET: u32 = 66051;
 
 // By design 1.
