@@ -5,8 +5,8 @@
 
 `rt ci` sees that an edit file is refused as a whole, and says for what first. Where that stands at the place of the one wrong program of the
 file, it is enough. The others are checked once more, and this reads all that the checker says: for every wrong program an error stands in the
-proof of its function, or in its file of definitions or laws, that does not only follow from another one and is not about the proof's form, as
-a name or a path that the changed code no longer has. A function that the same log calls proved must not count as refused. One line for each
+proof of its function, or in its file of definitions or laws, that does not only follow from another one, is not about the proof's form, as a
+name or a path that the changed code no longer has, and is no limit at which a search gave up. A function that the same log calls proved must not count as refused. One line for each
 that is wrong, and status 1; at the end how many were read.
 """
 import pathlib
@@ -19,14 +19,14 @@ sys.dont_write_bytecode = True
 ROOT = pathlib.Path(__file__).resolve().parent.parent
 sys.path.insert(0, str(ROOT / 'tools'))
 
-from edits import HEAD, OF_FORM, errors_at, sections, try_all, what_is_wrong, wrong_programs  # noqa: E402
+from edits import HEAD, errors_at, sections, try_all, what_is_wrong, wrong_programs  # noqa: E402
 
 REFUSED = re.compile(r'^rt: must-fail (\w+)/(\w+)\.edit: refused, as it must be(?: (\(only .*?\)))?: (.*)$', re.M)
 
 
 def first_said(crate, place, said):
     """Whether the first thing that `rt ci` said of an edit is a fact that fails at the place of its one wrong program."""
-    return bool(errors_at(crate, place, said)) and not OF_FORM.search(said)
+    return not what_is_wrong(crate, place, said)
 
 
 if len(sys.argv) != 2:

@@ -11,7 +11,7 @@ No loop of a row or of a layer jumps by a table, and no inner loop chooses a des
 3, 4 or 5, calls, or shifts by a register, and one that takes several pairs at a time has no condition but its own end. The stages of a few
 pairs of a row, one pair after the other, are a loop of the kernel's, which shifts by what the operands have.
 
-The archive must need nothing from outside (no undefined symbol) and hold no data that a program could write, so that it can go into ROM
+The code is for any processor of x86-64: no instruction is one that came later. The archive must need nothing from outside (no undefined symbol) and hold no data that a program could write, so that it can go into ROM
 as it is. Constants are counted in each of its three files: the byte table's 512 bytes, the words of a transcript, the places that a row, a
 layer and a product by any design jump to, and the vectors that rows and layers read, of which a linked program has those of its own once. Of
 the stack below its pointer a function may use the red zone alone, as the header says.
@@ -24,6 +24,10 @@ import sys
 
 # every multiply of x86-64: mul, imul, mulx, and the vector ones (pmuludq, vpmulld, mulps, ..)
 MULTIPLY = re.compile(r'v?p?i?mul\w*|v?pmadd\w*|vf[n]?m(?:add|sub)\w*')
+# what not every processor of x86-64 has: SSE3 and later, and the bits that are counted or moved in one instruction
+LATER = re.compile(r'v\w+|p?h(?:add|sub)\w+|addsub\w+|mov(?:s[lh]|d)dup|lddqu|pshufb|pabs[bwd]|psign\w+|palignr|pmaddubsw|pmulhrsw|p?blend\w+|dp[pb][sd]'
+                   r'|ptest|pm(?:ax|in)(?:sb|sd|uw|ud)|pmulld|pmuldq|pmov[sz]x\w+|p(?:ins|ext)r[bdq]|(?:insert|extract)ps|round[sp][sd]|packusdw'
+                   r'|pcmp(?:eqq|gtq|[ei]str\w+)|phminposuw|mpsadbw|crc32\w*|popcnt\w*|lzcnt\w*|tzcnt\w*|andn|bextr|sh[lr]x|sarx|rorx|pdep|pext|movbe\w*')
 # how many a function may have: a row's true products and residues, of which a vector takes up to three; a decimal's division by ten
 ALLOWED = {
     'highvane_score_row': 27,
@@ -51,7 +55,7 @@ GAP = re.compile(r'(?:data16\s|cs\s)*(?:nop|xchg\s+%ax,%ax)')
 # sections that a program writes, or that run before it; and constants, with how many bytes they may have
 DATA = re.compile(r'\.(data|bss|tdata|tbss|init_array|fini_array)\b')
 CONSTANTS = re.compile(r'\.rodata\b')
-CONSTANT_BYTES = {'capi.o': 512 + 24 + (20 + 16) + 372, 'capi_rows_c.o': 852, 'capi_layers.o': 220}
+CONSTANT_BYTES = {'capi.o': 512 + 24 + (20 + 16) + 372, 'capi_rows_c.o': 852, 'capi_layers.o': 236}
 # an operand below the stack pointer, and how many bytes below it anything may lie
 BELOW_STACK = re.compile(r'-0x([0-9a-f]+)\(%rsp')
 RED_ZONE = 128
@@ -183,6 +187,7 @@ def main():
         found = [i for _, i, _ in instructions if MULTIPLY.fullmatch(i)]
         if len(found) > (0 if file == LAYER_FILE else ALLOWED.get(name, 0)):
             wrong.append(f'{name} multiplies: {", ".join(found)}')
+        wrong += [f'{name} has {later}, which not every processor has' for later in sorted({i for _, i, _ in instructions if LATER.fullmatch(i)})]
         below = max((int(depth, 16) for _, _, operands in instructions for depth in BELOW_STACK.findall(operands)), default=0)
         if below > RED_ZONE:
             wrong.append(f'{name} reaches {below} bytes below the stack pointer, more than {RED_ZONE}')

@@ -24,7 +24,9 @@ ROOT = pathlib.Path(__file__).resolve().parent.parent
 HEAD = re.compile(r'^# (\w+): (\S+)$', re.M)
 # an error that only follows from another one, and one about the form of a proof, which shows nothing of the contract
 FOLLOWS = re.compile(r'(?:was|were) not (?:admitted|checked)|was rejected')
-OF_FORM = re.compile(r'has no (?:field )?`|not in scope|room for only|can be named from here|no occurrence of the path')
+OF_FORM = re.compile(r'has no (?:field )?`|not in scope|room for only|can be named from here|no occurrence of the path|no part of the goal')
+# a search that gave up, which shows nothing false
+AT_LIMIT = re.compile(r'the goal may hold|at one of its limits|its own limit')
 
 
 def sections(text):
@@ -55,12 +57,13 @@ def errors_at(crate, place, log):
 
 
 def what_is_wrong(crate, place, log):
-    """Nothing, where the check of an edit was refused at this place by a fact; otherwise what it was."""
+    """Nothing, where the check of an edit was refused at this place by a fact; otherwise what it was. Errors stand in the order of a proof's lines,
+    so that a name that the changed code no longer has may come before the fact that fails."""
     errors = errors_at(crate, place, log)
     if not errors:
         return f'is not refused in {place}'
-    facts = [error for error in errors if not OF_FORM.search(error)]
-    return '' if facts else f'is refused in {place} by the form of the proof: {errors[0][:200]}'
+    facts = [error for error in errors if not OF_FORM.search(error) and not AT_LIMIT.search(error)]
+    return '' if facts else f'is refused in {place} by the form of the proof or a limit: {errors[0][:200]}'
 
 
 def edited(crate, text):

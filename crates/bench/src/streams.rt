@@ -57,22 +57,28 @@ fn retried(error: Error) -> io::Result<()> {
     Err(error)
 }
 
-// A file may say only when it is stored that it had no room. A pipe or a terminal stores nothing, and what cannot be opened again is left.
+// A file may say only when it is stored that it had no room. A pipe or a terminal stores nothing, and what this program may not open again, or
+// cannot find, is left.
 fn store(rt: &HostRuntime) -> io::Result<()> {
-    if !is_file(rt) {
-        return Ok(());
+    for _ in 0..u64::MAX {
+        match store_once(rt) {
+            Ok(()) => return Ok(()),
+            Err(error) if is_out_of_reach(&error) => return Ok(()),
+            Err(error) => retried(error)?,
+        }
     }
-    match File::options().write(true).open(rt, OUTPUT) {
-        Ok(file) => file.sync_all(),
-        Err(_) => Ok(()),
-    }
+    Err(Error::from(ErrorKind::Interrupted))
 }
 
-fn is_file(rt: &HostRuntime) -> bool {
-    match fs::metadata(rt, OUTPUT) {
-        Ok(found) => found.is_file(),
-        Err(_) => false,
+fn store_once(rt: &HostRuntime) -> io::Result<()> {
+    if fs::metadata(rt, OUTPUT)?.is_file() {
+        File::options().write(true).open(rt, OUTPUT)?.sync_all()?;
     }
+    Ok(())
+}
+
+fn is_out_of_reach(error: &Error) -> bool {
+    (error.kind() == ErrorKind::PermissionDenied) | (error.kind() == ErrorKind::NotFound)
 }
 
 // One line on standard error, with the system's words for the error. Where even that cannot be written nothing is left to say.
