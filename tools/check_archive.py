@@ -4,7 +4,7 @@
 The chip has no multiplier, so no function that computes a design's product may hold a multiply instruction. Scoring a row, which
 the bench does and the chip does otherwise, multiplies: it forms the true product of each pair, and by designs 2 and 3 the residue as
 the product of what powers leave; the compiler makes two loops of each, for several pairs and for the rest, and the pairs that go one by
-one have a third. The writer of decimals divides by ten, which the compiler does by a multiply. Scoring a layer forms no true product, and no
+one have a third. The writer of decimals divides by ten, which the compiler does by a multiply. Scoring a layer forms no true product of a pair, and no
 function of its file multiplies anything.
 
 No loop of a row or of a layer jumps by a table, and no inner loop chooses a design or works out what a setting fixes: none compares with 2,
