@@ -56,7 +56,7 @@ def is_in_source(crate, *names):
     name = re.escape(names[-1])
     # handed on alone, or as one of the names in braces
     handed_on = rf'^pub use [\w:]+::(?:{name}|\{{(?:[^{{}}]*,)?\s*{name}\s*(?:,[^{{}}]*)?\}});'
-    return bool(re.search(rf'\b(?:fn|const|static|struct|enum|type|mod) {name}\b|{handed_on}', source, re.M))
+    return bool(re.search(rf'\b(?:fn|const|struct|enum|type|mod) {name}\b|{handed_on}', source, re.M))
 
 
 def is_path(word):
