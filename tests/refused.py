@@ -6,8 +6,8 @@
 `rt ci` sees that an edit file is refused as a whole, and says for what first. Where that stands at the place of the one wrong program of the
 file, it is enough. The others are checked once more, and this reads all that the checker says: for every wrong program an error stands in the
 proof of its function, or in its file of definitions or laws, that does not only follow from another one, is not about the proof's form, as a
-name or a path that the changed code no longer has, and is no limit at which a search gave up. A function that the same log calls proved must not count as refused. One line for each
-that is wrong, and status 1; at the end how many were read.
+name or a path that the changed code no longer has, and is no limit at which a search gave up. A function that the same log calls proved must not
+count as refused. One line for each that is wrong, and status 1; at the end how many were read.
 """
 import pathlib
 import re
