@@ -1,20 +1,21 @@
 #!/usr/bin/env python3
 """Check the compiled archive of the C interface, and print the bytes of each function.
 
-The chip has no multiplier, so no function that computes a design's product may hold a multiply instruction. Scoring a row, which
-the bench does and the chip does otherwise, multiplies: it forms the true product of each pair, and by designs 2 and 3 the residue as
-the product of what powers leave; the compiler makes two loops of each, for several pairs and for the rest, and the pairs that go one by
-one have a third. The writer of decimals divides by ten, which the compiler does by a multiply. Scoring a layer forms no true product of a pair, and no
+The chip has no multiplier, so no function that computes a design's product may hold a multiply instruction. Scoring a row, which the bench
+does and the chip does otherwise, multiplies: it forms the true product of each pair, and by designs 2 and 3 the residue as the product of
+what powers leave; the compiler makes two loops of each, for several pairs and for the rest, and the pairs that go one by one have a third.
+The writer of decimals divides by ten, which the compiler does by a multiply. Scoring a layer forms no true product of a pair, and no
 function of its file multiplies anything.
 
 No loop of a row or of a layer jumps by a table, and no inner loop chooses a design or works out what a setting fixes: none compares with 2,
 3, 4 or 5, calls, or shifts by a register, and one that takes several pairs at a time has no condition but its own end. The stages of a few
 pairs of a row, one pair after the other, are a loop of the kernel's, which shifts by what the operands have.
 
-The code is for any processor of x86-64: no instruction is one that came later. The archive must need nothing from outside (no undefined symbol) and hold no data that a program could write, so that it can go into ROM
-as it is. Constants are counted in each of its three files: the byte table's 512 bytes, the words of a transcript, the places that a row, a
-layer and a product by any design jump to, and the vectors that rows and layers read, of which a linked program has those of its own once. Of
-the stack below its pointer a function may use the red zone alone, as the header says.
+The code is for any processor of x86-64: no instruction is one that came later. The archive must need nothing from outside (no undefined
+symbol) and hold no data that a program could write, so that it can go into ROM as it is. Constants are counted in each of its three files:
+the byte table's 512 bytes, the words of a transcript, the places that a row, a layer and a product by any design jump to, and the vectors
+that rows and layers read, of which a linked program has those of its own once. Of the stack below its pointer a function may use the red
+zone alone, as the header says.
 
 Usage: python3 tools/check_archive.py ARCHIVE     (tools/archive writes target/libhighvane.a)
 """
@@ -25,9 +26,11 @@ import sys
 # every multiply of x86-64: mul, imul, mulx, and the vector ones (pmuludq, vpmulld, mulps, ..)
 MULTIPLY = re.compile(r'v?p?i?mul\w*|v?pmadd\w*|vf[n]?m(?:add|sub)\w*')
 # what not every processor of x86-64 has: SSE3 and later, and the bits that are counted or moved in one instruction
-LATER = re.compile(r'v\w+|p?h(?:add|sub)\w+|addsub\w+|mov(?:s[lh]|d)dup|lddqu|pshufb|pabs[bwd]|psign\w+|palignr|pmaddubsw|pmulhrsw|p?blend\w+|dp[pb][sd]'
+LATER = re.compile(r'v\w+|p?h(?:add|sub)\w+|addsub\w+|mov(?:s[lh]|d)dup|lddqu|pshufb|pabs[bwd]|psign\w+|palignr|pmaddubsw|pmulhrsw'
+                   r'|p?blend\w+|dp[pb][sd]'
                    r'|ptest|pm(?:ax|in)(?:sb|sd|uw|ud)|pmulld|pmuldq|pmov[sz]x\w+|p(?:ins|ext)r[bdq]|(?:insert|extract)ps|round[sp][sd]|packusdw'
-                   r'|pcmp(?:eqq|gtq|[ei]str\w+)|phminposuw|mpsadbw|crc32\w*|popcnt\w*|lzcnt\w*|tzcnt\w*|andn|bextr|sh[lr]x|sarx|rorx|pdep|pext|movbe\w*')
+                   r'|pcmp(?:eqq|gtq|[ei]str\w+)|phminposuw|mpsadbw|crc32\w*|popcnt\w*|lzcnt\w*|tzcnt\w*|andn|bextr|sh[lr]x|sarx|rorx'
+                   r'|pdep|pext|movbe\w*')
 # how many a function may have: a row's true products and residues, of which a vector takes up to three; a decimal's division by ten
 ALLOWED = {
     'highvane_score_row': 27,
