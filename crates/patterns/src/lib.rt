@@ -8,6 +8,7 @@ ghost use Rattle.designs.specs.Signs.{residue};
 ghost use Rattle.patterns.specs.Patterns.{clamped};
 
 mod logs;
+pub mod methods;
 mod powers;
 mod raising;
 mod sizes;

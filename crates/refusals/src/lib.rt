@@ -1,58 +1,55 @@
-// The refusals of docs/SCOPE.md: the number of each, under the name that the C header gives it, and the tests that products and rows
-// share, in their order.
+// The refusals of docs/SCOPE.md, each with its number, the designs that calls may ask for, and the tests that products and rows share, in
+// their order.
 #![tactic(auto)]
 
+ghost use Rattle.std.specs.Prelude.{◌≡◌};
+ghost use Rattle.refusals.specs.Refusals.{number};
+
+mod methods;
 mod products;
 mod rows;
 
+pub use methods::Method;
 pub use products::{is_design, is_width, of_operands, of_setting, takes_setting};
 pub use rows::{of_design, of_row};
 
-// Products; a row has the first and the third of these too.
-pub const UNKNOWN_DESIGN: u32 = 1;
+// Why a call is refused. The number of each stands beside it; the C header has it under the same name.
+#[derive(Clone, Copy, Debug, PartialEq, Eq)]
+pub enum Refusal {
+    // Products; a row has the first and the third of these too.
+    UnknownDesign = 1,
+    UnknownWidth = 2,
+    SettingOutOfRange = 3,
+    FirstOperandOutsideWidth = 4,
+    SecondOperandOutsideWidth = 20,
+    // Rows.
+    LengthsDiffer = 5,
+    TooManyPairs = 6,
+    ResiduesTooShort = 7,
+    // Single products.
+    NotFinite = 8,
+    Subnormal = 9,
+    ExponentTooLarge = 10,
+    ExponentTooSmall = 11,
+    // Weight stores.
+    ColumnsOutOfRange = 12,
+    UnevenStore = 13,
+    NoSuchRow = 14,
+    // Layers.
+    ScoresTooShort = 21,
+    // Scores that are handed out.
+    ShiftTooLarge = 15,
+    SizeTooLarge = 16,
+    // Records.
+    UnknownKind = 17,
+    CutShort = 18,
+    InputTooLong = 19,
+}
 
-pub const UNKNOWN_WIDTH: u32 = 2;
+impl From<Refusal> for u32 {
+    ghost from_gives = { λ r n. n ≡ number r };
 
-pub const SETTING_OUT_OF_RANGE: u32 = 3;
-
-pub const FIRST_OPERAND_OUTSIDE_WIDTH: u32 = 4;
-
-pub const SECOND_OPERAND_OUTSIDE_WIDTH: u32 = 20;
-
-// Rows.
-pub const LENGTHS_DIFFER: u32 = 5;
-
-pub const TOO_MANY_PAIRS: u32 = 6;
-
-pub const RESIDUES_TOO_SHORT: u32 = 7;
-
-// Single products.
-pub const NOT_FINITE: u32 = 8;
-
-pub const SUBNORMAL: u32 = 9;
-
-pub const EXPONENT_TOO_LARGE: u32 = 10;
-
-pub const EXPONENT_TOO_SMALL: u32 = 11;
-
-// Weight stores.
-pub const COLUMNS_OUT_OF_RANGE: u32 = 12;
-
-pub const UNEVEN_STORE: u32 = 13;
-
-pub const NO_SUCH_ROW: u32 = 14;
-
-// Layers.
-pub const SCORES_TOO_SHORT: u32 = 21;
-
-// Scores that are handed out.
-pub const SHIFT_TOO_LARGE: u32 = 15;
-
-pub const SIZE_TOO_LARGE: u32 = 16;
-
-// Records.
-pub const UNKNOWN_KIND: u32 = 17;
-
-pub const CUT_SHORT: u32 = 18;
-
-pub const INPUT_TOO_LONG: u32 = 19;
+    fn from(refusal: Refusal) -> u32 {
+        refusal as u32
+    }
+}

@@ -2,6 +2,11 @@
 ghost use Rattle.std.specs.Prelude.{◌≡◌};
 ghost use Rattle.designs.specs.Outcomes.{first};
 ghost use Rattle.designs.specs.Products.{is_design, is_width, takes_setting, setting_refusals, operand_refusals};
+ghost use Rattle.refusals.specs.Methods.{Judged};
+ghost use Rattle.refusals.specs.Refusals.{refused_by};
+
+use crate::methods::method_of;
+use crate::{Method, Refusal};
 
 // The widths, each a bit at its place.
 const WIDTHS: u64 = (1 << 8) | (1 << 12) | (1 << 16) | (1 << 32);
@@ -40,34 +45,34 @@ pub fn takes_setting(design: u32, width: u32, setting: u32) -> bool
     setting < width
 }
 
-// The refusal of a product by its design, its width and its setting, or 0.
-pub fn of_setting(design: u32, width: u32, setting: u32) -> u32
-    ensures { result ≡ first (setting_refusals design width setting) }
+// A product is judged by its design, its width and its setting.
+pub fn of_setting(design: u32, width: u32, setting: u32) -> Result<Method, Refusal>
+    ensures { Judged (setting_refusals design width setting) design setting result }
 {
     let known = is_design(design);
     let listed = is_width(width);
     let in_range = takes_setting(design, width, setting);
     if !known {
-        return crate::UNKNOWN_DESIGN;
+        return Err(Refusal::UnknownDesign);
     }
     if !listed {
-        return crate::UNKNOWN_WIDTH;
+        return Err(Refusal::UnknownWidth);
     }
     if !in_range {
-        return crate::SETTING_OUT_OF_RANGE;
+        return Err(Refusal::SettingOutOfRange);
     }
-    0
+    Ok(method_of(design, setting))
 }
 
-// The refusal of a product by its operands, of which is known whether each is inside the width, or 0.
-pub fn of_operands(a_inside: bool, b_inside: bool) -> u32
-    ensures { result ≡ first (operand_refusals a_inside b_inside) }
+// And by its operands, of which is known whether each is inside the width.
+pub fn of_operands(a_inside: bool, b_inside: bool) -> Result<(), Refusal>
+    ensures { refused_by result ≡ first (operand_refusals a_inside b_inside) }
 {
     if !a_inside {
-        return crate::FIRST_OPERAND_OUTSIDE_WIDTH;
+        return Err(Refusal::FirstOperandOutsideWidth);
     }
     if !b_inside {
-        return crate::SECOND_OPERAND_OUTSIDE_WIDTH;
+        return Err(Refusal::SecondOperandOutsideWidth);
     }
-    0
+    Ok(())
 }

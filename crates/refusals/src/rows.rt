@@ -1,44 +1,49 @@
 // The refusals of a row: by its design and setting, by its pairs, and by the places for its residues.
-ghost use Rattle.std.specs.Prelude.{◌≡◌};
-ghost use Rattle.designs.specs.Outcomes.{first};
 ghost use Rattle.designs.specs.Scoring.{design_refusals, row_refusals};
+ghost use Rattle.refusals.specs.Methods.{Judged};
+
+use crate::methods::method_of;
+use crate::{Method, Refusal};
 
 // The width at which a row is scored, and the most pairs that it may have.
 const ROW_WIDTH: u32 = 16;
 
 const MOST_PAIRS: usize = 4096;
 
-// The refusal of a row by its design and its setting, or 0.
-pub fn of_design(design: u32, setting: u32) -> u32
-    ensures { result ≡ first (design_refusals design setting) }
+// A row is judged by its design and its setting.
+pub fn of_design(design: u32, setting: u32) -> Result<Method, Refusal>
+    ensures { Judged (design_refusals design setting) design setting result }
 {
     let known = crate::is_design(design);
     let in_range = crate::takes_setting(design, ROW_WIDTH, setting);
     if !known {
-        return crate::UNKNOWN_DESIGN;
+        return Err(Refusal::UnknownDesign);
     }
     if !in_range {
-        return crate::SETTING_OUT_OF_RANGE;
+        return Err(Refusal::SettingOutOfRange);
     }
-    0
+    Ok(method_of(design, setting))
 }
 
-// The refusal of a row that is to be scored into so many places, or 0.
-pub fn of_row(design: u32, setting: u32, weights: usize, frame: usize, places: usize) -> u32
-    ensures { result ≡ first (row_refusals design setting weights frame places) }
+// And where it is to be scored into so many places, by these and by its lengths.
+pub fn of_row(
+    design: u32,
+    setting: u32,
+    weights: usize,
+    frame: usize,
+    places: usize,
+) -> Result<Method, Refusal>
+    ensures { Judged (row_refusals design setting weights frame places) design setting result }
 {
-    let by_design = of_design(design, setting);
-    if by_design != 0 {
-        return by_design;
-    }
+    let method = of_design(design, setting)?;
     if weights != frame {
-        return crate::LENGTHS_DIFFER;
+        return Err(Refusal::LengthsDiffer);
     }
     if MOST_PAIRS < weights {
-        return crate::TOO_MANY_PAIRS;
+        return Err(Refusal::TooManyPairs);
     }
     if places < weights {
-        return crate::RESIDUES_TOO_SHORT;
+        return Err(Refusal::ResiduesTooShort);
     }
-    0
+    Ok(method)
 }
