@@ -74,7 +74,7 @@ for archive in sys.argv[1:]:
 compare('tests/c/check_names.c', constant=there(r'\bHIGHVANE_(\w+)', text('tests/c/check_names.c')))
 
 # the crate has no texts
-known = numbers(r'pub const (\w+): u32 = (\d+);', text('crates/refusals/src/lib.rt'))
+known = {upper(name): number for name, number in numbers(r' (\w+) = (\d+),', text('crates/refusals/src/lib.rt')).items()}
 compare('crates/refusals', refusal={name: (number, texts.get(name)) for name, number in known.items()})
 
 named = {name: number for name, number in vars(reference).items() if isinstance(number, int) and number}
