@@ -30,10 +30,13 @@ ENDINGS = {'antt', 'c', 'edit', 'h', 'md', 'py', 'rs', 'rt', 'toml', 'txt'}
 KIT = {'bytes', 'io', 'libc', 'os', 'std', 'u8', 'u16', 'u32', 'u64', 'usize', 'i16', 'i32', 'i64', 'f32', 'f64'}
 
 
+def blocks(opening, source):
+    """From each line that the pattern opens the lines up to the next that is indented no more than it."""
+    return [found.group(0) for found in re.finditer(rf'^( *)(?:{opening}).*\n((?:\1 .*\n|\n)*)', source, re.M)]
+
+
 def block(opening, source):
-    """The lines from the one that the pattern opens to the next that is indented no more than it."""
-    found = re.search(rf'^( *){opening}.*\n((?:\1 .*\n|\n)*)', source, re.M)
-    return found.group(0) if found else ''
+    return next(iter(blocks(opening, source)), '')
 
 
 def is_defined(crate, file, *names):
@@ -52,11 +55,11 @@ def is_in_source(crate, *names):
     folder = f'crates/{crate}/src'
     source = text(f'{folder}/lib.rt') or text(f'{folder}/main.rt')
     for name in names[:-1]:
-        source = text(f'{folder}/{name}.rt') or block(f'pub (?:struct|enum) {name}', source) + block(f'impl {name}', source)
+        source = text(f'{folder}/{name}.rt') or ''.join(blocks(rf'pub (?:struct|enum|trait) {name}\b|impl\b.* (?:for )?{name}\b', source))
     name = re.escape(names[-1])
     # handed on alone, or as one of the names in braces
     handed_on = rf'^pub use [\w:]+::(?:{name}|\{{(?:[^{{}}]*,)?\s*{name}\s*(?:,[^{{}}]*)?\}});'
-    return bool(re.search(rf'\b(?:fn|const|struct|enum|type|mod) {name}\b|{handed_on}', source, re.M))
+    return bool(re.search(rf'\b(?:fn|const|struct|enum|trait|type|mod) {name}\b|^ +{name}(?: = \d+)?,$|{handed_on}', source, re.M))
 
 
 def is_path(word):
@@ -167,7 +170,10 @@ def check_trace():
         crate = path.parent.parent.name
         if not text(f'crates/{crate}/src/lib.rt'):
             continue
-        for name, contract in re.findall(r'^ *pub (?:extern "C" )?fn (\w+)(.*?)^ *\{', path.read_text(), re.M | re.S):
+        # a trait's functions are as public as it is
+        traits = [re.findall(r'^    fn (\w+)(.*?);$', each, re.M | re.S) for each in blocks('pub trait', path.read_text())]
+        functions = re.findall(r'^ *pub (?:extern "C" )?fn (\w+)(.*?)^ *\{', path.read_text(), re.M | re.S)
+        for name, contract in [*functions, *(each for trait in traits for each in trait)]:
             if (crate, name) not in cited:
                 report(TRACE, f'the public function {crate}::{name} is not cited')
             if 'ensures' not in contract:
