@@ -1,15 +1,14 @@
 -- What handing out a score gives for any input (docs/SCOPE.md, "Handing out a score"). Definitions only.
-use Rattle.std.specs.Prelude.{ℕ, ◌^◌, ◌||◌, List, [], ◌∷◌, ltb, ℤ, pos, nat_abs}
+use Rattle.std.specs.Prelude.{ℕ, ◌^◌, ◌||◌, List, [], ◌∷◌, ltb, ℤ, pos, nat_abs, Result}
 use Rattle.designs.specs.Outcomes.{Outcome, accepted, refused, Refusal, ◌when◌, first, unless_refused}
 use Rattle.scaling.specs.Quotient.{quotient, Exact}
 use Rattle.scaling.specs.declared.Quotients.{Quotients}
-use Rattle.scaling.specs.declared.Scaled.{Scaled}
-use Rattle.scaling.specs.declared.Scaled.TheVariants.{Values, Refused}
+use Rattle.refusals.specs.Refusals.{answer}
+use Rattle.refusals.specs.declared.Refusal as D
 
--- What each case of the answer stands for.
-abbrev pub scaled_given : Scaled → Outcome Quotients
-scaled_given (Values v) = accepted v
-scaled_given (Refused n) = refused n
+-- The outcome that an answer is.
+abbrev pub scaled_given : Result Quotients D.Refusal → Outcome Quotients
+scaled_given = answer
 
 -- The refusals, in order.
 abbrev pub shift_too_large : ℕ → Refusal

@@ -1,31 +1,19 @@
 // The product of two binary32 patterns by Mitchell's approximation (docs/SCOPE.md, "Single product"). It takes any patterns and gives
-// the product or the number of the first refusal that applies.
+// the product or the first refusal that applies.
 #![tactic(auto)]
 
 ghost use Rattle.std.specs.Prelude.{◌≡◌, ◌-◌, ◌≤◌, ◌<◌};
 ghost use Rattle.designs.specs.Outcomes.{accepted};
 ghost use Rattle.formats.specs.Formats.{binary32, hidden, largest_exponent, pattern};
+ghost use Rattle.refusals.specs.Refusals.{answer};
 ghost use Rattle.singles.specs.Singles.{product_fields, result_outcome};
 ghost use Rattle.singles.specs.Answers.{SingleProduct, as_single, pattern_given, single_given};
 
 use formats::Binary32;
-
-// A product, or the number of the refusal.
-#[derive(Clone, Copy)]
-pub enum Single {
-    Value(f32),
-    Refused(u32),
-}
-
-// The pattern of a product, or the number of the refusal.
-#[derive(Clone, Copy)]
-pub enum Pattern {
-    Value(u32),
-    Refused(u32),
-}
+use refusals::Refusal;
 
 // The product of two patterns.
-pub fn single_product(a: u32, b: u32) -> Single
+pub fn single_product(a: u32, b: u32) -> Result<f32, Refusal>
     ensures { SingleProduct a b result }
 {
     let x = Binary32::from_bits(a);
@@ -35,10 +23,10 @@ pub fn single_product(a: u32, b: u32) -> Single
     let zero = x.is_zero() | y.is_zero();
     let minus = x.is_minus() != y.is_minus();
     if !finite {
-        return Single::Refused(refusals::NOT_FINITE);
+        return Err(Refusal::NotFinite);
     }
     if subnormal {
-        return Single::Refused(refusals::SUBNORMAL);
+        return Err(Refusal::Subnormal);
     }
     if zero {
         return value(minus, 0, 0);
@@ -48,24 +36,20 @@ pub fn single_product(a: u32, b: u32) -> Single
 
 // The pattern of an answer's value, the sign of a zero included. A product is never a NaN; for a caller's own NaN one pattern
 // stands for all.
-pub fn bits(answer: Single) -> Pattern
+pub fn bits(answer: Result<f32, Refusal>) -> Result<u32, Refusal>
     ensures { pattern_given result ≡ single_given answer }
 {
-    match answer {
-        Single::Value(x) => {
-            if x != x {
-                let nan = Binary32::nan();
-                return Pattern::Value(nan.to_bits());
-            }
-            Pattern::Value(f32::to_bits(x))
-        }
-        Single::Refused(n) => Pattern::Refused(n),
+    let x = answer?;
+    if x != x {
+        let nan = Binary32::nan();
+        return Ok(nan.to_bits());
     }
+    Ok(f32::to_bits(x))
 }
 
 // The logarithms are added: the fractions, with a carry to the exponents.
-fn normal_product(minus: bool, x: Binary32, y: Binary32) -> Single
-    ensures { result ≡ as_single (result_outcome binary32 minus (product_fields binary32 x.bits y.bits)) }
+fn normal_product(minus: bool, x: Binary32, y: Binary32) -> Result<f32, Refusal>
+    ensures { answer result ≡ as_single (result_outcome binary32 minus (product_fields binary32 x.bits y.bits)) }
 {
     let exponents = x.exponent_field() + y.exponent_field();
     let fractions = x.fraction_field() + y.fraction_field();
@@ -76,25 +60,25 @@ fn normal_product(minus: bool, x: Binary32, y: Binary32) -> Single
 }
 
 // The number with these fields, or its refusal. The exponent field is still one bias too large.
-fn judged(minus: bool, exponent: u32, fraction: u32) -> Single
+fn judged(minus: bool, exponent: u32, fraction: u32) -> Result<f32, Refusal>
     requires { fraction < hidden binary32 }
-    ensures { result ≡ as_single (result_outcome binary32 minus (record { exponent = exponent - binary32.bias; fraction = fraction })) }
+    ensures { answer result ≡ as_single (result_outcome binary32 minus (record { exponent = exponent - binary32.bias; fraction = fraction })) }
 {
     if exponent > Binary32::BIAS + Binary32::LARGEST_EXPONENT {
-        return Single::Refused(refusals::EXPONENT_TOO_LARGE);
+        return Err(Refusal::ExponentTooLarge);
     }
     if exponent < Binary32::BIAS + 1 {
-        return Single::Refused(refusals::EXPONENT_TOO_SMALL);
+        return Err(Refusal::ExponentTooSmall);
     }
     value(minus, exponent - Binary32::BIAS, fraction)
 }
 
 // The finite number with these fields.
-fn value(minus: bool, exponent: u32, fraction: u32) -> Single
+fn value(minus: bool, exponent: u32, fraction: u32) -> Result<f32, Refusal>
     requires { (exponent ≤ largest_exponent binary32) × (fraction < hidden binary32) }
-    ensures { result ≡ as_single (accepted (pattern binary32 minus exponent fraction)) }
+    ensures { answer result ≡ as_single (accepted (pattern binary32 minus exponent fraction)) }
 {
-    Single::Value(f32::from_bits(pattern_of(minus, exponent, fraction)))
+    Ok(f32::from_bits(pattern_of(minus, exponent, fraction)))
 }
 
 // The pattern of the finite number with a sign and these fields.

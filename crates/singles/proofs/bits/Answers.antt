@@ -17,9 +17,9 @@ same-is-no-nan (fin s m e) q = tt
 pub returns-then-x : goal.returns-then-x
 unfolding to_bits
 returns-then-x c =
-    let same = differs_from_itself c.in-Value.x (subst⁻¹ T c.if-x.true tt) in
+    let same = differs_from_itself c.in_ok-x.x (subst⁻¹ T c.if-x.true tt) in
     ap accepted (c.to_bits.ensures ∙ c.nan-nan.ensures)
-    ∙ sym (ap single_given c.in-Value.is ∙ ap (λ (v : Float). accepted (to_bits binary32 v)) same)
+    ∙ sym (ap single_given c.in_ok-x.was ∙ ap (λ (v : Float). accepted (to_bits binary32 v)) same)
 
 pub float_to_bits-result : goal.float_to_bits-result
-float_to_bits-result c = same-is-no-nan c.in-Value.x c.if-x.false
+float_to_bits-result c = same-is-no-nan c.in_ok-x.x c.if-x.false
