@@ -1,17 +1,15 @@
 -- Signed machine numbers: widened ones, their sizes and tests, and what fits an i32. Each law goes by the two
 -- constructors of ℤ.
-use mathlib.Core.Path.{◌≡◌, refl, sym, ap₂, ◌∙◌}
+use mathlib.Core.Path.{◌≡◌, ap₂, ◌∙◌}
 use Prim.Native.Nat.{◌^◌, ◌≤◌, ◌<◌}
 use native.Mathlib.Nat.{mul-le-mul}
 use native.Mathlib.Omega.{arith}
-use mathlib.Core.Bool.{true, false, false≢true}
 use lib.Dec.{leb, T}
-use lib.IntN.{ℤ, pos, negsuc, neg_ℤ, nat_abs, ◌*ℤ◌}
-use lib.Signed.{mag, nat_abs-le, non_neg}
+use lib.IntN.{ℤ, pos, negsuc, nat_abs, ◌*ℤ◌}
+use lib.Signed.{mag, nat_abs-le}
 use mir.Syntax.{w16, w32, Width}
-use mir.Val.{Fits, hbits, SFits, to_z, of_z}
+use mir.Val.{hbits, SFits, to_z, of_z}
 use mir.Facts.{to_z-of_z, sfits_widen}
-use Rattle.designs.specs.Signs.{negative}
 use Rattle.designs.proofs.Sizes.{size-true}
 
 pub size16 : {x : ℤ} → SFits w16 x → nat_abs x ≤ 2 ^ 15
@@ -47,21 +45,3 @@ true-fits {w} {x} hw hx = sized (w *ℤ x) (omega (arith, true-size hw hx))
 pub read-true : {r w x : ℤ} → mag r < 2 ^ 31 → r ≡ to_z w16 (of_z w16 w) *ℤ to_z w16 (of_z w16 x) → SFits w16 w → SFits w16 x
     → to_z w32 (of_z w32 r) ≡ w *ℤ x
 read-true h e hw hx = read_back h (e ∙ ap₂ ◌*ℤ◌ (to_z-of_z hw) (to_z-of_z hx))
-
--- the size of a number without its sign is a machine number
-pub plain : (x : ℤ) → negative x ≡ false → nat_abs x < 2 ^ 31 → T (non_neg x) × Fits w32 (nat_abs x)
-plain (pos n) e l = (tt, record { fits = omega arith })
-plain (negsuc n) e l = absurd (false≢true (sym e))
-
-pub turned : (x : ℤ) → negative x ≡ true → negative (neg_ℤ x) ≡ false
-turned (pos n) e = absurd (false≢true e)
-turned (negsuc n) e = refl
-
--- a number without its sign
-pub plain-is : (x : ℤ) → negative x ≡ false → x ≡ pos (nat_abs x)
-plain-is (pos n) e = refl
-plain-is (negsuc n) e = absurd (false≢true (sym e))
-
-pub turned-is : (x : ℤ) → negative x ≡ true → neg_ℤ x ≡ pos (nat_abs x)
-turned-is (pos n) e = absurd (false≢true e)
-turned-is (negsuc n) e = refl

@@ -19,7 +19,7 @@ pub fn true_product(w: i16, x: i16) -> i32
 pub fn true_size(w: i16, x: i16) -> u32
     ensures { result ≡ nat_abs (w *ℤ x) }
 {
-    without_sign(true_product(w, x))
+    true_product(w, x).unsigned_abs()
 }
 
 // The size of the true product where that is below 0, otherwise 0.
@@ -27,51 +27,36 @@ pub fn minus_size(w: i16, x: i16) -> u32
     ensures { result ≡ minus_size (w *ℤ x) }
 {
     if true_product(w, x) < 0 {
-        return true_size(w, x);
+        true_size(w, x)
+    } else {
+        0
     }
-    0
 }
 
 // The size of a number.
 pub fn size(x: i16) -> u32
     ensures { result ≡ nat_abs x }
 {
-    without_sign(x as i32)
-}
-
-fn without_sign(z: i32) -> u32
-    requires { nat_abs z < 2 ^ 31 }
-    ensures { result ≡ nat_abs z }
-{
-    if z < 0 {
-        return (0 - z) as u32;
-    }
-    z as u32
+    (x as i32).unsigned_abs()
 }
 
 // 1 for a pair that holds a zero, otherwise 0.
 pub fn holds_zero(w: i16, x: i16) -> u32
     ensures { result ≡ 1 - nonzero w x }
 {
-    if true_product(w, x) == 0 {
-        return 1;
-    }
-    0
+    if true_product(w, x) == 0 { 1 } else { 0 }
 }
 
 // The smaller of two lengths.
 pub fn fewer(a: usize, b: usize) -> usize
     ensures { result ≡ min a b }
 {
-    if a < b {
-        return a;
-    }
-    b
+    a.min(b)
 }
 
 // How many pairs are taken of two slices of these lengths, where there is room for so many.
 pub fn taken(weights: usize, frame: usize, room: usize) -> usize
     ensures { result ≡ pairs_of weights frame room }
 {
-    fewer(fewer(weights, frame), room)
+    weights.min(frame).min(room)
 }
