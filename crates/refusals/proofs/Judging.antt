@@ -4,11 +4,11 @@ use mathlib.Core.Path.{◌≡◌, ◌∙◌, refl}
 use Prim.Native.Nat.{ℕ}
 use native.Mathlib.Omega.{arith}
 use mathlib.Core.List.{List, ◌++◌}
-use Rattle.std.specs.Prelude.{Ok, Err}
+use Rattle.std.specs.Prelude.{true, false, Result, Ok, Err, is_err}
 use Rattle.designs.specs.Outcomes.{Refusal, accepted, first, refused, unless_refused}
 use Rattle.designs.proofs.Refusals.{Numbered, gives, of-first, of-second, refuses}
 use Rattle.refusals.specs.Methods.{Judged}
-use Rattle.refusals.specs.Refusals.{number}
+use Rattle.refusals.specs.Refusals.{number, refused_by}
 use Rattle.refusals.specs.declared.Refusal as D
 use Rattle.refusals.specs.declared.methods.Method.{Method}
 
@@ -33,3 +33,12 @@ refuse v r e = refuses v e (numbered r)
 
 pub give : {X : Type 0} (v : X) {n : ℕ} → 0 ≡ n → accepted v ≡ unless_refused n v
 give v e = gives v e refl
+
+-- what a test of a result says of its number
+pub accepted_by : {X : Type 0} (r : Result X D.Refusal) → is_err r ≡ false → refused_by r ≡ 0
+accepted_by (Ok x) e = refl
+accepted_by (Err r) e = cc
+
+pub not_accepted : {X : Type 0} (r : Result X D.Refusal) → is_err r ≡ true → refused_by r ≡ 0 → ⊥
+not_accepted (Ok x) e = cc
+not_accepted (Err r) e = numbered r

@@ -1,8 +1,6 @@
 -- Parts of a weight store, lent as signed 16-bit numbers (docs/SCOPE.md, "Finding a row in a weight store"). Definitions only.
-use Rattle.std.specs.Prelude.{◌≡◌, List, ℕ, ◌+◌, ◌*◌, ◌<◌, ℤ, length, take, drop, Result, IfOk}
+use Rattle.std.specs.Prelude.{◌≡◌, List, [], ℕ, ◌+◌, ◌*◌, ◌<◌, ℤ, length, take, drop}
 use Rattle.std.specs.Borrow.{Bor}
-use Rattle.refusals.specs.Refusals.{refused_by}
-use Rattle.refusals.specs.declared.Refusal.{Refusal}
 use Rattle.stores.specs.Stores.{store_refusal, row_start, row_count}
 
 -- A part is the store's own memory and no copy: it lies in the store's block, at the place of element `start` (an element takes two
@@ -13,12 +11,9 @@ pub record Part (store part : Bor (List ℤ)) (start n : ℕ) : Type 0 where
   pub elements : part.now ≡ take n (drop start store.now)
   pub count : length part.now ≡ n
 
--- An accepted row is the part where it lies, which has at least one element.
-pub record Lent (store : Bor (List ℤ)) (columns row : ℕ) (part : Bor (List ℤ)) : Type 0 where
+-- What is handed back: of an accepted row the part where it lies, which has at least one element; of a refused row, and of no other,
+-- a part without elements.
+pub record RowPart (store part : Bor (List ℤ)) (columns row : ℕ) : Type 0 where
   pub lies : Part store part (row_start (length store.now) columns row) (row_count (length store.now) columns row)
-  pub accepted : 0 < length part.now
-
--- What is handed back: the first refusal that applies, and where none does, the row's part.
-pub record RowPart (store : Bor (List ℤ)) (columns row : ℕ) (result : Result (Bor (List ℤ)) Refusal) : Type 0 where
-  pub refusal : refused_by result ≡ store_refusal (length store.now) columns row
-  pub part : IfOk result (Lent store columns row)
+  pub accepted : store_refusal (length store.now) columns row ≡ 0 → 0 < length part.now
+  pub refused : (store_refusal (length store.now) columns row ≡ 0 → ⊥) → part.now ≡ []

@@ -1,39 +1,20 @@
--- `row_part` judges the store's shape and then the row, as `store_refusals` joins their lists. Where nothing is refused the row ends at or
--- before the store's end, so the part is one of the store's and its place fits.
-use Rattle.std.proofs.Common.{arith, rules, refl, sym, ◌≡◌, length, [], ◌∷◌}
+-- `row_part` takes its part where `row_refusal` refuses nothing: there the row ends at or before the store's end, so the part is one of the
+-- store's and its place fits.
+use Rattle.std.proofs.Common.{arith, refl, sym, ◌≡◌, ◌∙◌, length}
 use Rattle.std.proofs.lemmas.List.{length-take, length-drop}
-use Rattle.std.proofs.lemmas.Result.{err_from_is_err_and}
-use Rattle.designs.specs.Outcomes.{first}
-use Rattle.designs.proofs.Refusals.{of-first}
-use Rattle.refusals.proofs.Judging.{numbered}
-use Rattle.stores.specs.Stores.{shape_refusals, no_such_row, store_refusal}
-use Rattle.stores.proofs.FoundRow.{Found, found, shaped}
-use Rattle.stores.proofs.Handed.{row-handed, row-refused}
+use Rattle.refusals.proofs.Judging.{accepted_by, not_accepted}
+use Rattle.stores.specs.Stores.{store_refusal}
+use Rattle.stores.proofs.FoundRow.{Found, found}
+use Rattle.stores.proofs.Handed.{nothing-handed, row-handed}
 use Rattle.stores.proofs.row_part.Goals as goal
-use Rattle.stores.proofs.row_part.Goals.{Else-row-store}
+use Rattle.stores.proofs.row_part.Goals.{Else-is_err}
 
 -- the row is accepted
-accepted : (c : Else-row-store) → 0 ≡ store_refusal (length c.args.store.now) c.args.columns c.args.row
-unfolding store_refusal first
-accepted c = search rules
+judged : (c : Else-is_err) → store_refusal (length c.args.store.now) c.args.columns c.args.row ≡ 0
+judged c = sym c.row_refusal.ensures ∙ accepted_by c.row_refusal.result (sym c.is_err.ensures.value ∙ c.if-is_err.false)
 
-settled : (c : Else-row-store) → Found (length c.args.store.now) c.args.columns c.args.row
-settled c = found _ _ _ (sym (accepted c))
-
-pub returns-in_err-shape_refusal : goal.returns-in_err-shape_refusal
-unfolding store_refusal
-returns-in_err-shape_refusal c =
-    let p = err_from_is_err_and c.from_residual.result c.from_residual.ensures.1 in
-    let shape = shape_refusals (length c.args.store.now) c.args.columns in
-    let row = no_such_row (length c.args.store.now) c.args.columns c.args.row ∷ [] in
-    rw (p.1, p.2) (row-refused _ _ _ _ (of-first shape row c.in_err-shape_refusal.ensures (numbered _)))
-
-pub nonzero_div-store : goal.nonzero_div-store
-nonzero_div-store c = (shaped _ _ (sym c.in_ok-shape_refusal.ensures)).some
-
-pub returns-then-row-store : goal.returns-then-row-store
-unfolding store_refusal first
-returns-then-row-store c = row-refused _ _ _ _ (search rules)
+settled : (c : Else-is_err) → Found (length c.args.store.now) c.args.columns c.args.row
+settled c = found _ _ _ (judged c)
 
 pub overflow_mul-start : goal.overflow_mul-start
 overflow_mul-start c = omega (arith, settled c)
@@ -47,8 +28,14 @@ offset_bounds-store-start c = omega (arith, settled c)
 pub slice_bounds-view-end : goal.slice_bounds-view-end
 slice_bounds-view-end c = omega (arith, settled c)
 
+pub returns-then-is_err : goal.returns-then-is_err
+returns-then-is_err c =
+    let refused = not_accepted c.row_refusal.result (sym c.is_err.ensures.value ∙ c.if-is_err.true) in
+    nothing-handed _ _ _ (λ e. refused (c.row_refusal.ensures ∙ e)) (record { block = refl; place = refl; elements = refl; count = refl })
+
 pub returns : goal.returns
 returns c =
-    let inside : Found (length c.args.store.now) c.args.columns c.args.row = settled (goal.at.returns c).Else-row-store in
-    row-handed c.args.store _ _ (accepted (goal.at.returns c).Else-row-store)
+    let here = (goal.at.returns c).Else-is_err in
+    let inside : Found (length c.args.store.now) c.args.columns c.args.row = settled here in
+    row-handed c.args.store _ _ (judged here)
     (record { block = refl; place = refl; elements = refl; count = simp (length-take, length-drop) (omega arith) }) refl (omega arith)
