@@ -1,3 +1,4 @@
+pub mod Zero
 pub mod Powers
 pub mod MitchellSteps
 pub mod NearestSteps

@@ -2,80 +2,65 @@
 // operations of docs/SCOPE.md: they judge nothing and refuse nothing. They shift and add; none multiplies.
 #![tactic(auto)]
 
-ghost use Rattle.std.specs.Prelude.{◌≡◌, ◌<◌};
+ghost use Rattle.std.specs.Prelude.{◌≡◌};
 ghost use Rattle.designs.specs.Designs.{product, mitchell, nearest, staged};
 ghost use Rattle.kernels.specs.Steps.{NearPower};
 
 mod bits;
+mod operand;
 mod truncation;
 
-use crate::bits::{greater, log2_floor, power, rest_of, shifted};
+use crate::bits::{power, shifted};
+use crate::operand::{Operand, both};
 pub use truncation::{truncated, twice_truncated};
 
 // Design 1, Mitchell.
 pub fn mitchell(a: u32, b: u32) -> u64
     ensures { result ≡ product mitchell a b }
 {
-    if a == 0 {
+    let Some((a, b)) = both(a, b) else {
         return 0;
-    }
-    if b == 0 {
-        return 0;
-    }
-    let k = log2_floor(a);
-    let m = log2_floor(b);
-    let y = shifted(rest_of(b, m), k);
-    let s = shifted(rest_of(a, k), m) + y;
+    };
+    let y = shifted(b.rest, a.log);
+    let s = shifted(a.rest, b.log) + y;
     // a × 2^m + y is 2^(k+m) + s, the greater of the two where s does not carry
-    greater(shifted(a, m) + y, s + s)
+    (shifted(a.value, b.log) + y).max(s + s)
 }
 
 // Design 2, nearest power.
 pub fn nearest(a: u32, b: u32) -> u64
     ensures { result ≡ product nearest a b }
 {
-    if a == 0 {
+    let Some((a, b)) = both(a, b) else {
         return 0;
-    }
-    if b == 0 {
-        return 0;
-    }
+    };
     let k = near_power(a);
     let m = near_power(b);
     // b − 2^m may be negative and the product's parts may pass 2^64, so both sums are taken modulo 2^64; the product fits
-    let r = std::num::wrapping_sub_u64(b as u64, power(m));
-    std::num::wrapping_add_u64(shifted(a, m), r << k)
+    let r = std::num::wrapping_sub_u64(b.value as u64, power(m));
+    std::num::wrapping_add_u64(shifted(a.value, m), r << k)
 }
 
 // The exponent of the power of two nearest to x, the higher one of two that are equally near.
-fn near_power(x: u32) -> u32
-    requires { 0 < x }
-    ensures { NearPower x result }
+fn near_power(x: Operand) -> u32
+    ensures { NearPower x.value result }
 {
-    let k = log2_floor(x);
-    // the bit of 2 × x below its leading one, at 2^k, says whether x is at least halfway to 2^(k+1); no bit above it is wanted
-    let twice = std::num::wrapping_add_u32(x, x);
-    k + ((twice >> k) & 1)
+    // the bit of 2 × x below its leading one, at 2^log, says whether x is at least halfway to the next power; no bit above it is wanted
+    let twice = std::num::wrapping_add_u32(x.value, x.value);
+    x.log + ((twice >> x.log) & 1)
 }
 
 // Design 3, staged: one stage, and what is left of both goes to the next.
 pub fn staged(stages: u32, a: u32, b: u32) -> u64
     ensures { result ≡ product (staged stages) a b }
 {
-    if a == 0 {
-        return 0;
-    }
-    if b == 0 {
-        return 0;
-    }
     if stages == 0 {
         return 0;
     }
-    let k = log2_floor(a);
-    let m = log2_floor(b);
-    let x = rest_of(a, k);
-    let y = rest_of(b, m);
+    let Some((a, b)) = both(a, b) else {
+        return 0;
+    };
     // 2^(k+m) + x × 2^m is a × 2^m
-    let output = shifted(a, m) + shifted(y, k);
-    output + staged(stages - 1, x, y)
+    let output = shifted(a.value, b.log) + shifted(b.rest, a.log);
+    output + staged(stages - 1, a.rest, b.rest)
 }

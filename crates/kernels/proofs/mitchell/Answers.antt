@@ -1,7 +1,7 @@
 -- `mitchell` adds both rests, each shifted by the other's power, and takes the greater of the two cases.
 use Rattle.std.proofs.Common.{◌≡◌, ℕ, ◌+◌, ◌*◌, ◌^◌, max, ap, ◌∙◌, ap₂, arith}
-use Rattle.designs.specs.Designs.{mitchell, rest}
-use Rattle.designs.proofs.Zeros.{zero_left, zero_right}
+use Rattle.designs.specs.Designs.{mitchell, product, rest}
+use Rattle.kernels.proofs.Zero.{zero}
 use Rattle.kernels.proofs.MitchellSteps.{Sum, sum}
 use Rattle.kernels.proofs.mitchell.Goals as goal
 use Rattle.kernels.proofs.mitchell.Goals.{After-shifted}
@@ -9,25 +9,26 @@ use Rattle.kernels.proofs.mitchell.Goals.{After-shifted}
 -- the operands' powers and their sum, when both rests have been shifted
 module _ (c : After-shifted) where
   abbrev K : ℕ
-  K = 2 ^ c.log2_floor-k.result
+  K = 2 ^ c.in-Some.a.log
 
   abbrev M : ℕ
-  M = 2 ^ c.log2_floor-m.result
+  M = 2 ^ c.in-Some.b.log
 
-  sum_at : Sum 32 c.args.a c.args.b c.log2_floor-k.result c.log2_floor-m.result
-  sum_at = sum 32 _ _ _ _ (omega arith) (omega arith) c.ranges.a.fits c.ranges.b.fits c.log2_floor-k.ensures.is c.log2_floor-m.ensures.is
+  sum_at : Sum 32 c.in-Some.a.value c.in-Some.b.value c.in-Some.a.log c.in-Some.b.log
+  sum_at =
+      let (ea, eb) = c.in-Some.ensures.some in
+      let a = c.in-Some.a.split in
+      let b = c.in-Some.b.split in
+      sum 32 _ _ _ _ a.some b.some (omega (arith, c.ranges.a.fits)) (omega (arith, c.ranges.b.fits)) a.log b.log
 
-  y_is : c.shifted-y.result ≡ rest c.args.b * K
-  y_is = c.shifted-y.ensures ∙ ap (λ (x : ℕ). x * K) c.rest_of.ensures
+  y_is : c.shifted-y.result ≡ rest c.in-Some.b.value * K
+  y_is = c.shifted-y.ensures ∙ ap (λ (x : ℕ). x * K) c.in-Some.b.split.left
 
-  s_is : c.shifted.result + c.shifted-y.result ≡ rest c.args.a * M + rest c.args.b * K
-  s_is = ap₂ ◌+◌ (c.shifted.ensures ∙ ap (λ (x : ℕ). x * M) c.rest_of-2.ensures) y_is
+  s_is : c.shifted.result + c.shifted-y.result ≡ rest c.in-Some.a.value * M + rest c.in-Some.b.value * K
+  s_is = ap₂ ◌+◌ (c.shifted.ensures ∙ ap (λ (x : ℕ). x * M) c.in-Some.a.split.left) y_is
 
-pub returns-then-a-eq0 : goal.returns-then-a-eq0
-returns-then-a-eq0 c = zero_left mitchell _ _ c.if-a-eq0.true
-
-pub returns-then-b-eq0 : goal.returns-then-b-eq0
-returns-then-b-eq0 c = zero_right mitchell _ _ c.if-b-eq0.true
+pub returns-in_default : goal.returns-in_default
+returns-in_default c = zero mitchell _ _ c.in_default.ensures.none
 
 pub overflow_add-s : goal.overflow_add-s
 overflow_add-s c = record { fits = omega (arith, s_is c, (sum_at c).small, (sum_at c).room) }
@@ -45,6 +46,7 @@ overflow_add-s-2 c =
 pub returns : goal.returns
 returns c =
     let b = (goal.at.returns c).After-shifted in
-    c.greater.ensures
+    let (ea, eb) = c.in-Some.ensures.some in
+    c.max.ensures
     ∙ ap₂ max (ap₂ ◌+◌ c.shifted-2.ensures (y_is b) ∙ (sum_at b).whole) (ap₂ ◌+◌ (s_is b) (s_is b))
-    ∙ (sum_at b).is
+    ∙ (sum_at b).is ∙ ap₂ (product mitchell) ea eb

@@ -1,27 +1,24 @@
 -- The product by design 4, and the product by design 4 with two kept bits of what is left; their sum is a product, so it fits.
-use Rattle.std.proofs.Common.{◌≡◌, ℕ, ◌+◌, ◌^◌, Bool, nat_lt, sym, ap, ◌∙◌, ap₂, arith}
+use Rattle.std.proofs.Common.{◌≡◌, ℕ, ◌+◌, ◌^◌, ◌<◌, Bool, min, nat_lt, sym, ap, ◌∙◌, ap₂, arith}
 use Rattle.designs.specs.Designs.{left_over, product, total_below, truncated, twice_truncated}
 use Rattle.designs.proofs.TwiceTruncated.{twice-is}
 use Rattle.designs.proofs.Widths.{product_lt}
-use Rattle.designs.proofs.Zeros.{zero_left, zero_right}
 use Rattle.designs.proofs.Truncated.{moved-below}
+use Rattle.kernels.proofs.Zero.{zero}
 use Rattle.kernels.proofs.truncation.twice_truncated.Goals as goal
 
-pub returns-then-a-eq0 : goal.returns-then-a-eq0
-returns-then-a-eq0 c = zero_left (twice_truncated _) _ _ c.if-a-eq0.true
-
-pub returns-then-b-eq0 : goal.returns-then-b-eq0
-returns-then-b-eq0 c = zero_right (twice_truncated _) _ _ c.if-b-eq0.true
+pub returns-in_default : goal.returns-in_default
+returns-in_default c = zero (twice_truncated _) _ _ c.in_default.ensures.none
 
 module _ (c : goal.After-truncated) where
   abbrev A : ℕ
-  A = c.args.a
+  A = c.in-Some.a.value
 
   abbrev B : ℕ
-  B = c.args.b
+  B = c.in-Some.b.value
 
   abbrev t : ℕ
-  t = c.at_most_31.result
+  t = min c.args.kept_bits 31
 
   low_is : nat_lt c.kept_sum-s.result (2 ^ 31) ≡ total_below t A B
   low_is = let u = c.kept_sum-s.ensures in ap (λ (s : ℕ). nat_lt s (2 ^ 31)) u.is ∙ moved-below 31 t A B u.few
@@ -33,10 +30,16 @@ module _ (c : goal.After-truncated) where
       (c.left_over-2.ensures ∙ ap (λ (low : Bool). left_over low B) low_is)
 
   both : c.moved_down.result + c.truncated.result ≡ product (twice_truncated t) A B
-  both = ap₂ ◌+◌ (c.moved_down.ensures t A B c.kept_sum-s.ensures) second ∙ sym (twice-is t A B (omega arith) (omega arith))
+  both =
+      ap₂ ◌+◌ (c.moved_down.ensures t c.kept_sum-s.ensures) second
+      ∙ sym (twice-is t A B c.in-Some.a.split.some c.in-Some.b.split.some)
 
 pub overflow_add-result : goal.overflow_add-result
-overflow_add-result c = record { fits = rw (both c) (product_lt (twice_truncated (t c)) 32 32 (A c) (B c) c.ranges.a.fits c.ranges.b.fits) }
+overflow_add-result c =
+    let (ea, eb) = c.in-Some.ensures.some in
+    let a : A c < 2 ^ 32 = omega (arith, c.ranges.a.fits) in
+    let b : B c < 2 ^ 32 = omega (arith, c.ranges.b.fits) in
+    record { fits = rw (both c) (product_lt (twice_truncated (t c)) 32 32 (A c) (B c) a b) }
 
 pub returns : goal.returns
-returns c = both c ∙ ap (λ (t : ℕ). product (twice_truncated t) (A c) (B c)) c.at_most_31.ensures
+returns c = let (ea, eb) = c.in-Some.ensures.some in both c ∙ ap₂ (product (twice_truncated (t c))) ea eb
