@@ -1,7 +1,9 @@
 -- A loop that fills a block place by place: one turn more is one place more. Stages keep the numbers small, and one stage after k
 -- is k + 1. Each law goes place by place.
-use Rattle.std.proofs.Common.{◌≡◌, ℕ, ◌+◌, ◌-◌, ◌^◌, ◌<◌, ◌≤◌, List, length, set, ℤ, pos, nat_abs, sym, refl, ap, ◌∙◌, subst, le_antisymm, add-one, arith, length-set, get_or-set_other, get_or-set_same, le-ltb, lt-ltb}
+use Rattle.std.proofs.Common.{◌≡◌, ◌++◌, ℕ, ◌+◌, ◌-◌, ◌^◌, ◌<◌, ◌≤◌, List, length, set, ℤ, pos, nat_abs, sym, refl, ap, ◌∙◌, subst, le_antisymm, add-one, arith, length-set, get_or-set_other, get_or-set_same, le-ltb, lt-ltb}
 use native.Mathlib.Nat.{add-sub_cancel_left}
+use lib.ListN.{take, drop, length-drop, get_or-append, length-append}
+use lib.Seq.{get_or-append_right, get_or-take, get_or-drop, length-take-le}
 use Rattle.designs.proofs.Cases.{either_lt}
 use Rattle.designs.proofs.SignedLeft.{left-next, rest-size}
 use Rattle.designs.specs.Signs.{left_ℤ, rest_ℤ}
@@ -38,6 +40,24 @@ done-small d l f = record { room = omega (arith, d.size); at = λ j h. rw (d.fir
 
 pub rest-small : (n : ℕ) (l : List ℤ) → Small n l → (j : ℕ) → j < n → nat_abs (rest_ℤ (place l j)) ≤ 2 ^ 15
 rest-small n l s j h = omega (arith, rest-size (place l j), s.at j h)
+
+-- the first m places of a list, lent alone
+module _ {m : ℕ} {l : List ℤ} where
+  pub front-small : Small m l → Small (length (take m l)) (take m l)
+  front-small s =
+      let size : length (take m l) ≡ m = length-take-le m l s.room in
+      record { room = omega arith; at = λ i h. rw (get_or-take m l i (pos 0) (omega arith)) (s.at i (omega arith)) }
+
+  pub front-done : (f : ℤ → ℤ) {part : List ℤ} → m ≤ length l → Done (λ i. f (place (take m l) i)) (length (take m l)) (take m l) part → Done (λ i. f (place l i)) m l (part ++ drop m l)
+  front-done f {part} room d =
+      let size : length part ≡ m = d.size ∙ length-take-le m l room in
+      record {
+        size = omega (arith, length-append part (drop m l), length-drop m l);
+        first = λ i h. get_or-append part (drop m l) (pos 0) i (omega arith) ∙ d.first i (omega (arith, d.size)) ∙ ap f (get_or-take m l i (pos 0) h);
+        later =
+            λ i h. get_or-append_right part (drop m l) i (pos 0) (omega arith) ∙ get_or-drop m l (i - length part) (pos 0)
+            ∙ ap (place l) (omega arith);
+      }
 
 -- two runs of places, one behind the other
 module _ (n : ℕ) (f g : ℕ → ℤ) (i : ℕ) where

@@ -16,15 +16,13 @@ fn signed_rest(x: i32) -> i32
     less_power(x, 0)
 }
 
-// One stage over the first n numbers of a block.
-fn clear(n: usize, block: &mut [i32])
-    requires { Small n block.old }
-    ensures { Done (λ i. rest_ℤ (place block.old i)) n block.old block.new }
+// One stage over numbers.
+fn clear(numbers: &mut [i32])
+    requires { Small (length numbers.old) numbers.old }
+    ensures { Done (λ i. rest_ℤ (place numbers.old i)) (length numbers.old) numbers.old numbers.new }
 {
-    let mut i = 0;
-    while i < n {
-        block[i] = signed_rest(block[i]);
-        i += 1;
+    for x in numbers.iter_mut() {
+        *x = signed_rest(*x);
     }
 }
 
@@ -44,13 +42,9 @@ fn begin(stages: u32, n: usize, weights: &[i16], frame: &[i16], block: &mut [i32
     requires { Room n weights.now frame.now block.old }
     ensures { Left (min stages 1) weights.now frame.now n block.old block.new }
 {
-    let mut i = 0;
-    while i < n {
-        let w = weights[i];
-        let x = frame[i];
-        block[i] = first_rest(stages, w as i32);
-        block[n + i] = first_rest(stages, x as i32);
-        i += 1;
+    for i in 0..n {
+        block[i] = first_rest(stages, weights[i] as i32);
+        block[n + i] = first_rest(stages, frame[i] as i32);
     }
 }
 
@@ -62,10 +56,8 @@ pub fn pairs_left(stages: u32, weights: &[i16], frame: &[i16], left: &mut [i32])
 {
     let n = pairs::taken(weights.len(), frame.len(), left.len() / 2);
     begin(stages, n, weights, frame, left);
-    let mut k = 1;
-    while k < stages {
-        clear(n + n, left);
-        k += 1;
+    for _k in 1..stages {
+        clear(&mut left[..n + n]);
     }
     n
 }

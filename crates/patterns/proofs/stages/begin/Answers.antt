@@ -18,7 +18,7 @@ module _ (stages : ℕ) {z : ℤ} (fits : SFits w16 z) where
   small = omega (arith, left-size (min stages 1) z, size16 fits)
 
 pub loop-i-init : goal.loop-i-init
-loop-i-init c = (none-of-both, λ j h. absurd (omega arith), omega arith)
+loop-i-init c = (none-of-both, λ j h. absurd (omega arith))
 
 pub loop-i-preserved : goal.loop-i-preserved
 loop-i-preserved c =
@@ -29,7 +29,6 @@ loop-i-preserved c =
           (given stages w_fits c.first_rest.type_inv c.first_rest.ensures)
           (given stages x_fits c.first_rest-in-loop-i.type_inv c.first_rest-in-loop-i.ensures),
       below_more _ _ c.loop-i.invariant.1 (small stages w_fits, small stages x_fits),
-      omega arith,
     )
 
 pub returns : goal.returns

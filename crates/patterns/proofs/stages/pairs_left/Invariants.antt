@@ -1,14 +1,11 @@
 -- After `begin` one stage is made, if there is one, and each turn makes one more. So before turn k the places have what k stages leave of the
 -- numbers of both slices, or all stages, where they are fewer, and these are small.
-use Rattle.std.proofs.Common.{◌+◌, ◌-◌, min}
+use Rattle.std.proofs.Common.{◌+◌, min}
 use Rattle.patterns.specs.Blocks.{joined, place, Small}
 use Rattle.patterns.proofs.Blocks.{After}
 use Rattle.patterns.proofs.stages.pairs_left.Given as goal
 
 abbrev pub invariant-loop-k : goal.invariant-loop-k
 invariant-loop-k l =
-    After (joined l.n (place l.weights) (place l.frame)) (min l.stages l.k) (l.n + l.n) l.initial.left l.left
+    After (joined l.n (place l.weights) (place l.frame)) (min l.stages l._k) (l.n + l.n) l.initial.left l.left
     × Small (l.n + l.n) l.left
-
-abbrev pub decreases-loop-k : goal.decreases-loop-k
-decreases-loop-k l = l.stages - l.k

@@ -5,8 +5,8 @@ use Rattle.designs.specs.Signs.{residue}
 use Rattle.pairs.proofs.Integers.{read_back, read-true, size16, true-size}
 use Rattle.patterns.proofs.Pair.{less-size-is, product-size}
 use Rattle.patterns.proofs.SecondStage.{by-stages, left-logs, left-small, low-both, low-none}
-use Rattle.patterns.proofs.twice_truncated_residue.Goals as goal
-use Rattle.patterns.proofs.twice_truncated_residue.Goals.{After-is_low-low}
+use Rattle.patterns.proofs.methods.TwiceTruncatedMultiplier.residue.Goals as goal
+use Rattle.patterns.proofs.methods.TwiceTruncatedMultiplier.residue.Goals.{After-is_low-low}
 
 module _ (c : After-is_low-low) where
   abbrev t : ℕ

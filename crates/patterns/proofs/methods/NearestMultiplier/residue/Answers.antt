@@ -6,7 +6,7 @@ use Rattle.signs.proofs.Integers.{fits-as, read_as}
 use Rattle.pairs.proofs.Integers.{read_back, size16}
 use Rattle.patterns.proofs.ExponentField.{nearest-is}
 use Rattle.patterns.proofs.Pair.{residue-fits}
-use Rattle.patterns.proofs.nearest_residue.Goals as goal
+use Rattle.patterns.proofs.methods.NearestMultiplier.residue.Goals as goal
 
 module _ (c : goal.After-offset-2) where
   is : to_z w32 (of_z w32 c.offset.result) *ℤ to_z w32 (of_z w32 c.offset-2.result) ≡ residue nearest c.args.w c.args.x

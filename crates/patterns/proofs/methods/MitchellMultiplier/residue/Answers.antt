@@ -7,8 +7,8 @@ use Rattle.pairs.proofs.Integers.{read-true, size16}
 use Rattle.patterns.proofs.Moved.{read-pattern}
 use Rattle.patterns.proofs.Pair.{residue-is}
 use Rattle.patterns.proofs.Mitchell.{mitchell-less}
-use Rattle.patterns.proofs.mitchell_residue.Goals as goal
-use Rattle.patterns.proofs.mitchell_residue.Goals.{After-log_sum}
+use Rattle.patterns.proofs.methods.MitchellMultiplier.residue.Goals as goal
+use Rattle.patterns.proofs.methods.MitchellMultiplier.residue.Goals.{After-log_sum}
 
 module _ (c : After-log_sum) where
   truth : to_z w32 (of_z w32 c.true_product.result) ≡ c.args.w *ℤ c.args.x

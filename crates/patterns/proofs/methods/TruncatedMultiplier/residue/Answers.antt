@@ -8,8 +8,8 @@ use Rattle.pairs.proofs.Integers.{read-true, size16}
 use Rattle.patterns.proofs.Moved.{read-pattern}
 use Rattle.patterns.proofs.Pair.{residue-is}
 use Rattle.patterns.proofs.KeptPatterns.{truncated-less}
-use Rattle.patterns.proofs.truncated_residue.Goals as goal
-use Rattle.patterns.proofs.truncated_residue.Goals.{After-with_carry}
+use Rattle.patterns.proofs.methods.TruncatedMultiplier.residue.Goals as goal
+use Rattle.patterns.proofs.methods.TruncatedMultiplier.residue.Goals.{After-with_carry}
 
 module _ (c : After-with_carry) where
   truth : to_z w32 (of_z w32 c.true_product.result) ≡ c.args.w *ℤ c.args.x
