@@ -1,3 +1,4 @@
 pub mod Residues
 pub mod Counts
 pub mod Sums
+pub mod Filled

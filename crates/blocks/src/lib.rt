@@ -3,164 +3,143 @@
 // places. The other places keep their contents. Every number here has 32 bits, so that the compiler takes four pairs at a time.
 #![tactic(auto)]
 
-ghost use Rattle.std.specs.Prelude.{◌≡◌, ◌+◌, ◌≤◌, ◌*ℤ◌, length};
-ghost use Rattle.designs.specs.Designs.{mitchell, nearest, staged, truncated, twice_truncated};
+ghost use Rattle.std.specs.Prelude.{◌≡◌, ◌+◌, ◌≤◌, List, ℤ, ◌*ℤ◌, length};
+ghost use Rattle.std.proofs.Common.{rules};
+ghost use Rattle.designs.specs.Designs.{mitchell, nearest, truncated, twice_truncated};
 ghost use Rattle.patterns.specs.Blocks.{Done, place, Small};
 ghost use Rattle.patterns.specs.Patterns.{clamped};
-ghost use Rattle.blocks.specs.Residues.{Residues, ResiduesByStages};
+ghost use Rattle.blocks.specs.Filled.{Filled, of-stages, of-taken};
+ghost use Rattle.blocks.specs.Residues.{Residues};
 ghost use Rattle.blocks.specs.Sums.{Held, Taken, taken, TakenByStages};
+ghost use Rattle.blocks.specs.declared.sums.BlockSums.{BlockSums};
 
 mod sums;
 
 use crate::sums::{added, no_sums, with_pair};
+use patterns::methods::{Mitchell, Multiplier, Nearest, Staged, Truncated, TwiceTruncated};
 pub use sums::BlockSums;
 
 // The most pairs of a block.
 pub const BLOCK: usize = 64;
 
-// By design 1, Mitchell's: the residues and the sums in one loop.
-pub fn mitchell(weights: &[i16], frame: &[i16], block: &mut [i32; BLOCK]) -> BlockSums
-    ensures { Taken mitchell weights.now frame.now block.old block.new result }
-{
-    mitchell_pairs(weights, frame, &mut block[..])
+// A design that takes pairs by blocks of N places. `taken` is all that it promises of them, and `holds` what every design does.
+pub trait ByBlocks<const N: usize>: Multiplier {
+    ghost taken: { Self → List ℤ → List ℤ → List ℤ → List ℤ → BlockSums → Type 0 };
+
+    fn fill(self, weights: &[i16], frame: &[i16], block: &mut [i32; N]) -> BlockSums
+        ensures { taken self weights.now frame.now block.old block.new result };
+
+    ghost room: { (64 ≤ N) × (N ≤ 128) };
+
+    ghost holds: { (d : Self) (ws fs before after : List ℤ) (s : BlockSums) → taken d ws fs before after s → Filled (Self.design d) ws fs before after s };
 }
 
-fn mitchell_pairs(weights: &[i16], frame: &[i16], block: &mut [i32]) -> BlockSums
-    requires { 64 ≤ length block.old }
-    ensures { Taken mitchell weights.now frame.now block.old block.new result }
-{
-    let n = pairs::taken(weights.len(), frame.len(), BLOCK);
-    let mut sums = no_sums();
-    let mut j = 0;
-    while j < n {
-        let w = weights[j];
-        let x = frame[j];
-        let residue = patterns::mitchell_residue(w, x);
-        block[j] = residue;
-        sums = with_pair(sums, w, x, residue);
-        j += 1;
-    }
-    sums
-}
+impl ByBlocks<BLOCK> for Mitchell {
+    ghost taken = { λ d. Taken mitchell };
 
-// By design 2, the nearest power: with the sums in the same loop it would take twice as long.
-pub fn nearest(weights: &[i16], frame: &[i16], block: &mut [i32; BLOCK]) -> BlockSums
-    ensures { Taken nearest weights.now frame.now block.old block.new result }
-{
-    nearest_residues(weights, frame, &mut block[..]);
-    added(weights, frame, &block[..])
-}
+    ghost room = { Prim.search rules };
 
-fn nearest_residues(weights: &[i16], frame: &[i16], block: &mut [i32])
-    requires { 64 ≤ length block.old }
-    ensures { Residues nearest weights.now frame.now (taken weights.now frame.now) block.old block.new × Held weights.now frame.now block.new }
-{
-    let n = pairs::taken(weights.len(), frame.len(), BLOCK);
-    let mut j = 0;
-    while j < n {
-        let w = weights[j];
-        let x = frame[j];
-        block[j] = patterns::nearest_residue(w, x);
-        j += 1;
+    ghost holds = { λ d ws fs before after s t. of-taken t };
+
+    fn fill(self, weights: &[i16], frame: &[i16], block: &mut [i32; BLOCK]) -> BlockSums {
+        together(self, weights, frame, block)
     }
 }
 
-// By design 3: what the stages leave of both numbers of each pair, multiplied. Behind the residues stands what they leave of the frame.
-pub fn staged(
-    stages: u32,
-    weights: &[i16],
-    frame: &[i16],
-    block: &mut [i32; 2 * BLOCK],
-) -> BlockSums
-    ensures { TakenByStages stages weights.now frame.now block.old block.new result }
-{
-    staged_residues(stages, weights, frame, &mut block[..]);
-    added(weights, frame, &block[..])
-}
+// With the sums in the same loop it would take twice as long.
+impl ByBlocks<BLOCK> for Nearest {
+    ghost taken = { λ d. Taken nearest };
 
-fn staged_residues(stages: u32, weights: &[i16], frame: &[i16], block: &mut [i32])
-    requires { length block.old ≡ 128 }
-    ensures { ResiduesByStages stages weights.now frame.now (taken weights.now frame.now) block.old block.new × Held weights.now frame.now block.new }
-{
-    let n = patterns::pairs_left(stages, weights, frame, block);
-    multiply(n, block);
-}
+    ghost room = { Prim.search rules };
 
-// Multiplies each of the first n places of a block by the one n places behind it.
-fn multiply(n: usize, block: &mut [i32])
-    requires { Small (n + n) block.old }
-    ensures { Done (λ k. place block.old k *ℤ place block.old (n + k)) n block.old block.new }
-{
-    let mut j = 0;
-    while j < n {
-        let p = block[j];
-        let q = block[n + j];
-        block[j] = p * q;
-        j += 1;
+    ghost holds = { λ d ws fs before after s t. of-taken t };
+
+    fn fill(self, weights: &[i16], frame: &[i16], block: &mut [i32; BLOCK]) -> BlockSums {
+        residues(self, weights, frame, block);
+        added(weights, frame, &block[..])
     }
 }
 
-// By design 4, with the kept bits taken as `patterns` takes them: in one loop as by design 1.
-pub fn truncated(
-    kept_bits: u32,
-    weights: &[i16],
-    frame: &[i16],
-    block: &mut [i32; BLOCK],
-) -> BlockSums
-    ensures { Taken (truncated (clamped kept_bits)) weights.now frame.now block.old block.new result }
-{
-    truncated_pairs(kept_bits, weights, frame, &mut block[..])
-}
+// What the stages leave of both numbers of each pair, multiplied. Behind the residues stands what they leave of the frame.
+impl ByBlocks<TWO_BLOCKS> for Staged {
+    ghost taken = { λ d. TakenByStages d.stages };
 
-fn truncated_pairs(kept_bits: u32, weights: &[i16], frame: &[i16], block: &mut [i32]) -> BlockSums
-    requires { 64 ≤ length block.old }
-    ensures { Taken (truncated (clamped kept_bits)) weights.now frame.now block.old block.new result }
-{
-    let n = pairs::taken(weights.len(), frame.len(), BLOCK);
-    let mut sums = no_sums();
-    let mut j = 0;
-    while j < n {
-        let w = weights[j];
-        let x = frame[j];
-        let residue = patterns::truncated_residue(kept_bits, w, x);
-        block[j] = residue;
-        sums = with_pair(sums, w, x, residue);
-        j += 1;
+    ghost room = { Prim.search rules };
+
+    ghost holds = { λ d ws fs before after s t. of-stages t };
+
+    fn fill(self, weights: &[i16], frame: &[i16], block: &mut [i32; TWO_BLOCKS]) -> BlockSums {
+        let n = patterns::pairs_left(self.stages, weights, frame, &mut block[..]);
+        let (of_weights, of_frame) = block.split_at_mut(n);
+        multiply(of_weights, of_frame);
+        added(weights, frame, &block[..])
     }
-    sums
 }
 
-// By design 5, with the kept bits as by design 4, and in one loop too.
-pub fn twice_truncated(
-    kept_bits: u32,
+const TWO_BLOCKS: usize = 2 * BLOCK;
+
+// With the kept bits taken as `patterns` takes them.
+impl ByBlocks<BLOCK> for Truncated {
+    ghost taken = { λ d. Taken (truncated (clamped d.kept_bits)) };
+
+    ghost room = { Prim.search rules };
+
+    ghost holds = { λ d ws fs before after s t. of-taken t };
+
+    fn fill(self, weights: &[i16], frame: &[i16], block: &mut [i32; BLOCK]) -> BlockSums {
+        together(self, weights, frame, block)
+    }
+}
+
+impl ByBlocks<BLOCK> for TwiceTruncated {
+    ghost taken = { λ d. Taken (twice_truncated (clamped d.kept_bits)) };
+
+    ghost room = { Prim.search rules };
+
+    ghost holds = { λ d ws fs before after s t. of-taken t };
+
+    fn fill(self, weights: &[i16], frame: &[i16], block: &mut [i32; BLOCK]) -> BlockSums {
+        together(self, weights, frame, block)
+    }
+}
+
+// The residues and the sums in one loop.
+fn together<D: Multiplier>(
+    d: D,
     weights: &[i16],
     frame: &[i16],
     block: &mut [i32; BLOCK],
 ) -> BlockSums
-    ensures { Taken (twice_truncated (clamped kept_bits)) weights.now frame.now block.old block.new result }
-{
-    twice_truncated_pairs(kept_bits, weights, frame, &mut block[..])
-}
-
-fn twice_truncated_pairs(
-    kept_bits: u32,
-    weights: &[i16],
-    frame: &[i16],
-    block: &mut [i32],
-) -> BlockSums
-    requires { 64 ≤ length block.old }
-    ensures { Taken (twice_truncated (clamped kept_bits)) weights.now frame.now block.old block.new result }
+    ensures { Taken (D.design d) weights.now frame.now block.old block.new result }
 {
     let n = pairs::taken(weights.len(), frame.len(), BLOCK);
     let mut sums = no_sums();
-    let mut j = 0;
-    while j < n {
+    for j in 0..n {
         let w = weights[j];
         let x = frame[j];
-        let residue = patterns::twice_truncated_residue(kept_bits, w, x);
+        let residue = d.residue(w, x);
         block[j] = residue;
         sums = with_pair(sums, w, x, residue);
-        j += 1;
     }
     sums
+}
+
+// The residues alone.
+fn residues<D: Multiplier>(d: D, weights: &[i16], frame: &[i16], block: &mut [i32; BLOCK])
+    ensures { Residues (D.design d) weights.now frame.now (taken weights.now frame.now) block.old block.new × Held weights.now frame.now block.new }
+{
+    let n = pairs::taken(weights.len(), frame.len(), BLOCK);
+    for j in 0..n {
+        block[j] = d.residue(weights[j], frame[j]);
+    }
+}
+
+// Multiplies each number by the one at its place.
+fn multiply(numbers: &mut [i32], by: &[i32])
+    requires { Small (length numbers.old) numbers.old × Small (length numbers.old) by.now }
+    ensures { Done (λ k. place numbers.old k *ℤ place by.now k) (length numbers.old) numbers.old numbers.new }
+{
+    for (j, p) in numbers.iter_mut().enumerate() {
+        *p *= by[j];
+    }
 }

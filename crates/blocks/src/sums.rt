@@ -76,13 +76,8 @@ pub(crate) fn added(weights: &[i16], frame: &[i16], block: &[i32]) -> BlockSums
 {
     let n = pairs::taken(weights.len(), frame.len(), BLOCK);
     let mut sums = no_sums();
-    let mut j = 0;
-    while j < n {
-        let w = weights[j];
-        let x = frame[j];
-        let residue = block[j];
-        sums = with_pair(sums, w, x, residue);
-        j += 1;
+    for j in 0..n {
+        sums = with_pair(sums, weights[j], frame[j], block[j]);
     }
     sums
 }

@@ -1,18 +1,18 @@
 -- A row that goes by blocks, by any design. A block takes a part of the row, whose place k is place at + k of the row; so a block that is
 -- taken of the part holds the residues of the row's pairs and their sums, and can be added.
-use mathlib.Core.Path.{◌≡◌, refl, ap₂, ◌∙◌, subst}
+use mathlib.Core.Path.{◌≡◌, ap₂, ◌∙◌, subst}
 use Prim.Native.Nat.{ℕ, min, ◌+◌, ◌-◌, ◌≤◌, ◌<◌}
 use native.Mathlib.Omega.{arith}
 use mathlib.Core.List.{List}
 use lib.IntN.{ℤ, pos}
 use lib.ListN.{length, take, drop, length-drop}
 use lib.Seq.{get_or-take, get_or-drop, length-take-le}
-use Rattle.designs.specs.Designs.{Design, staged}
-use Rattle.designs.specs.Signs.{left_ℤ, residue}
+use Rattle.designs.specs.Designs.{Design}
+use Rattle.designs.specs.Signs.{residue}
 use Rattle.patterns.specs.Blocks.{place}
-use Rattle.patterns.proofs.Blocks.{in-first}
 use Rattle.blocks.specs.Residues.{of_pair}
-use Rattle.blocks.specs.Sums.{Adds, Taken, taken, TakenByStages}
+use Rattle.blocks.specs.Filled.{Filled}
+use Rattle.blocks.specs.Sums.{Adds, taken}
 use Rattle.blocks.specs.declared.sums.BlockSums.{BlockSums}
 use Rattle.blocks.proofs.Adding.{added-as}
 use Rattle.rows.specs.Answers.{Ready}
@@ -102,21 +102,5 @@ module _ {D : Design} {size : ℕ} {ws fs before after block : List ℤ} {at n t
   pub fewer-left : at < to → to - end < to - at
   fewer-left h = omega arith
 
--- a block that has been taken, by a design that may have another name too
-module _ {D : Design} {ws fs before after block : List ℤ} {at n to : ℕ} {s : Sums} (loop : Blocks D 64 ws fs before after to at s block) (count : n ≡ min (to - at) 64) where
-  pub taken_as : {E : Design} → E ≡ D → {all : BlockSums} {block' : List ℤ} → Taken E (us loop count) (vs loop count) block block' all → NextBlock D ws fs before after at s n all block'
-  taken_as same by =
-      let here = rw same at by in
-      addable loop count (omega (arith, by.filled.size, loop.places)) (λ k h. here.filled.first k h) here.adds
-
-  pub taken-by : {all : BlockSums} {block' : List ℤ} → Taken D (us loop count) (vs loop count) block block' all → NextBlock D ws fs before after at s n all block'
-  taken-by = taken_as refl
-
--- by stages a pair has two places
-pub taken-by-stages : {t : ℕ} {ws fs before after block block' : List ℤ} {at n to : ℕ} {s : Sums} {all : BlockSums} (loop : Blocks (staged t) 128 ws fs before after to at s block)
-    (count : n ≡ min (to - at) 64) → TakenByStages t (us loop count) (vs loop count) block block' all → NextBlock (staged t) ws fs before after at s n all block'
-taken-by-stages {t} loop count by =
-    let us' = us loop count in
-    let vs' = vs loop count in
-    addable loop count (omega (arith, by.filled.size, loop.places))
-    (λ k h. by.filled.first k (omega arith) ∙ in-first (taken us' vs') (of_pair (residue (staged t)) us' vs') (λ i. left_ℤ t (place vs' i)) k h) by.adds
+  pub filled : {all : BlockSums} {block' : List ℤ} → 64 ≤ size → Filled D us vs block block' all → NextBlock D ws fs before after at s n all block'
+  filled room by = addable (omega (arith, by.size, loop.places)) by.first by.adds

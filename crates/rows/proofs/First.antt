@@ -1,13 +1,15 @@
 -- The first place of a block that has a number of some size: with a place more it is the smaller of the first so far and of this place, where
 -- the number has the size, or else of 64.
-use mathlib.Core.Path.{◌≡◌}
+use mathlib.Core.Path.{◌≡◌, sym, ap, ◌∙◌}
 use mathlib.Core.Bool.{cond}
 use mathlib.Core.List.{List}
-use Prim.Native.Nat.{ℕ, min, ◌+◌, ◌<◌}
+use Prim.Native.Nat.{ℕ, min, ◌+◌, ◌≤◌, ◌<◌}
 use native.Mathlib.Omega.{arith}
 use borrow.Author.Tests.{eqb-false, eqb-true}
 use lib.Dec.{eqb}
-use lib.IntN.{ℤ, nat_abs}
+use lib.ListN.{length, take}
+use lib.Seq.{get_or-take, length-take-le}
+use lib.IntN.{ℤ, pos, nat_abs}
 use Rattle.designs.proofs.Cases.{by_bool, either_lt}
 use Rattle.patterns.specs.Blocks.{place}
 use Rattle.rows.specs.Worst.{First}
@@ -38,3 +40,14 @@ module _ {block : List ℤ} {size : ℕ} where
     pub next : First block size (j + 1) (min p (cond (eqb (nat_abs (place block j)) size) j 64))
     next =
         by_bool (λ b. First block size (j + 1) (min p (cond b j 64))) (eqb (nat_abs (place block j)) size) (λ t. has (eqb-true _ _ t)) (λ t. has-not (eqb-false _ _ t))
+
+-- in the first n places, lent alone
+pub of-front : {block : List ℤ} {size n p : ℕ} → n ≤ length block → First (take n block) size (length (take n block)) p → First block size n p
+of-front {block} {size} {n} room first =
+    let places : length (take n block) ≡ n = length-take-le n block room in
+    let same : (k : ℕ) → k < n → nat_abs (place (take n block) k) ≡ nat_abs (place block k) = λ k h. ap nat_abs (get_or-take n block k (pos 0) h) in
+    record {
+      inside = first.inside;
+      found = λ h. let f = first.found h in let l : _ < n = omega (arith, f.0) in (l, sym (same _ l) ∙ f.1);
+      none = λ k h l e. first.none k (omega arith) l (same k h ∙ e);
+    }

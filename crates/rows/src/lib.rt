@@ -4,7 +4,7 @@
 
 ghost use Rattle.std.specs.Prelude.{◌≡◌};
 ghost use Rattle.designs.specs.Rows.{empty_report};
-ghost use Rattle.rows.specs.Answers.{Scoring, report_of};
+ghost use Rattle.rows.specs.Answers.{Ready, Reported, Scoring, report_of};
 ghost use Rattle.rows.specs.Totals.{in_blocks};
 
 mod by_blocks;
@@ -12,12 +12,17 @@ mod one_by_one;
 mod sums;
 mod worst;
 
+use crate::by_blocks::by_blocks;
+use crate::one_by_one::one_by_one;
 use crate::sums::report_of;
+use blocks::ByBlocks;
+use patterns::methods::{Mitchell, Nearest, Staged, Truncated, TwiceTruncated};
+use refusals::{Method, Refusal};
 
 // The report of a row: `magnitude_sum` is the scope's T, and `nonzero_pairs` its n. `largest_residue` is the largest size of a residue, and
 // `largest_place` the first place that has it. It is laid out as C has it.
 #[repr(C)]
-#[derive(Clone, Copy)]
+#[derive(Clone, Copy, Default)]
 pub struct RowReport {
     pub score: i64,
     pub true_sum: i64,
@@ -33,23 +38,8 @@ impl RowReport {
     pub fn empty() -> Self
         ensures { report_of result ≡ empty_report }
     {
-        Self {
-            score: 0,
-            true_sum: 0,
-            error: 0,
-            magnitude_sum: 0,
-            nonzero_pairs: 0,
-            largest_residue: 0,
-            largest_place: 0,
-        }
+        Self::default()
     }
-}
-
-// The report of a row, or the number of the refusal.
-#[derive(Clone, Copy)]
-pub enum Scored {
-    Report(RowReport),
-    Refused(u32),
 }
 
 // Rows of fewer pairs take less time one by one than by a block.
@@ -73,25 +63,20 @@ pub fn score_row(
     weights: &[i16],
     frame: &[i16],
     residues: &mut [i64],
-) -> Scored
+) -> Result<RowReport, Refusal>
     ensures { Scoring design setting weights.now frame.now residues.old residues.new result }
 {
-    if design == 1 {
-        return score_row_mitchell(setting, weights, frame, residues);
+    match refusals::of_row(design, setting, weights.len(), frame.len(), residues.len())? {
+        Method::Mitchell => Ok(report(Mitchell, weights, frame, residues)),
+        Method::Nearest => Ok(report(Nearest, weights, frame, residues)),
+        Method::Staged { stages } => Ok(report(Staged { stages }, weights, frame, residues)),
+        Method::Truncated { kept_bits } => {
+            Ok(report(Truncated { kept_bits }, weights, frame, residues))
+        }
+        Method::TwiceTruncated { kept_bits } => {
+            Ok(report(TwiceTruncated { kept_bits }, weights, frame, residues))
+        }
     }
-    if design == 2 {
-        return score_row_nearest(setting, weights, frame, residues);
-    }
-    if design == 3 {
-        return score_row_staged(setting, weights, frame, residues);
-    }
-    if design == 4 {
-        return score_row_truncated(setting, weights, frame, residues);
-    }
-    if design == 5 {
-        return score_row_twice_truncated(setting, weights, frame, residues);
-    }
-    Scored::Refused(refusals::UNKNOWN_DESIGN)
 }
 
 // The same by design 1 alone, Mitchell's, which takes the setting 0.
@@ -100,17 +85,11 @@ pub fn score_row_mitchell(
     weights: &[i16],
     frame: &[i16],
     residues: &mut [i64],
-) -> Scored
+) -> Result<RowReport, Refusal>
     ensures { Scoring 1 setting weights.now frame.now residues.old residues.new result }
 {
-    let refusal = refusals::of_row(1, setting, weights.len(), frame.len(), residues.len());
-    if refusal != 0 {
-        return Scored::Refused(refusal);
-    }
-    let to = in_blocks(weights.len());
-    let first = by_blocks::mitchell(to, weights, frame, residues);
-    let sums = one_by_one::mitchell(first, to, weights, frame, residues);
-    Scored::Report(report_of(sums, weights.len()))
+    refusals::of_row(1, setting, weights.len(), frame.len(), residues.len())?;
+    Ok(report(Mitchell, weights, frame, residues))
 }
 
 // By design 2 alone, the nearest power, which takes the setting 0.
@@ -119,17 +98,11 @@ pub fn score_row_nearest(
     weights: &[i16],
     frame: &[i16],
     residues: &mut [i64],
-) -> Scored
+) -> Result<RowReport, Refusal>
     ensures { Scoring 2 setting weights.now frame.now residues.old residues.new result }
 {
-    let refusal = refusals::of_row(2, setting, weights.len(), frame.len(), residues.len());
-    if refusal != 0 {
-        return Scored::Refused(refusal);
-    }
-    let to = in_blocks(weights.len());
-    let first = by_blocks::nearest(to, weights, frame, residues);
-    let sums = one_by_one::nearest(first, to, weights, frame, residues);
-    Scored::Report(report_of(sums, weights.len()))
+    refusals::of_row(2, setting, weights.len(), frame.len(), residues.len())?;
+    Ok(report(Nearest, weights, frame, residues))
 }
 
 // By design 3 alone; the setting is the number of stages.
@@ -138,17 +111,11 @@ pub fn score_row_staged(
     weights: &[i16],
     frame: &[i16],
     residues: &mut [i64],
-) -> Scored
+) -> Result<RowReport, Refusal>
     ensures { Scoring 3 setting weights.now frame.now residues.old residues.new result }
 {
-    let refusal = refusals::of_row(3, setting, weights.len(), frame.len(), residues.len());
-    if refusal != 0 {
-        return Scored::Refused(refusal);
-    }
-    let to = in_blocks(weights.len());
-    let first = by_blocks::staged(setting, to, weights, frame, residues);
-    let sums = one_by_one::staged(setting, first, to, weights, frame, residues);
-    Scored::Report(report_of(sums, weights.len()))
+    refusals::of_row(3, setting, weights.len(), frame.len(), residues.len())?;
+    Ok(report(Staged { stages: setting }, weights, frame, residues))
 }
 
 // By design 4 alone; the setting is the number of kept bits.
@@ -157,17 +124,11 @@ pub fn score_row_truncated(
     weights: &[i16],
     frame: &[i16],
     residues: &mut [i64],
-) -> Scored
+) -> Result<RowReport, Refusal>
     ensures { Scoring 4 setting weights.now frame.now residues.old residues.new result }
 {
-    let refusal = refusals::of_row(4, setting, weights.len(), frame.len(), residues.len());
-    if refusal != 0 {
-        return Scored::Refused(refusal);
-    }
-    let to = in_blocks(weights.len());
-    let first = by_blocks::truncated(setting, to, weights, frame, residues);
-    let sums = one_by_one::truncated(setting, first, to, weights, frame, residues);
-    Scored::Report(report_of(sums, weights.len()))
+    refusals::of_row(4, setting, weights.len(), frame.len(), residues.len())?;
+    Ok(report(Truncated { kept_bits: setting }, weights, frame, residues))
 }
 
 // By design 5 alone; the setting is the number of bits that its first stage keeps.
@@ -176,15 +137,30 @@ pub fn score_row_twice_truncated(
     weights: &[i16],
     frame: &[i16],
     residues: &mut [i64],
-) -> Scored
+) -> Result<RowReport, Refusal>
     ensures { Scoring 5 setting weights.now frame.now residues.old residues.new result }
 {
-    let refusal = refusals::of_row(5, setting, weights.len(), frame.len(), residues.len());
-    if refusal != 0 {
-        return Scored::Refused(refusal);
-    }
+    refusals::of_row(5, setting, weights.len(), frame.len(), residues.len())?;
+    Ok(report(
+        TwiceTruncated { kept_bits: setting },
+        weights,
+        frame,
+        residues,
+    ))
+}
+
+// The report of a row that is not refused: its first pairs by blocks, and the others one by one.
+fn report<const N: usize, D: ByBlocks<N>>(
+    d: D,
+    weights: &[i16],
+    frame: &[i16],
+    residues: &mut [i64],
+) -> RowReport
+    requires { Ready (D.design d) weights.now frame.now residues.old }
+    ensures { Reported (D.design d) weights.now frame.now residues.old residues.new result }
+{
     let to = in_blocks(weights.len());
-    let first = by_blocks::twice_truncated(setting, to, weights, frame, residues);
-    let sums = one_by_one::twice_truncated(setting, first, to, weights, frame, residues);
-    Scored::Report(report_of(sums, weights.len()))
+    let first = by_blocks(d, to, weights, frame, residues);
+    let sums = one_by_one(d, first, to, weights, frame, residues);
+    report_of(sums, weights.len())
 }

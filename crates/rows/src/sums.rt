@@ -107,12 +107,10 @@ fn write(error: i64, from: usize, end: usize, block: &[i32], residues: &mut [i64
     ensures { (z : ℕ → ℤ) (before : List ℤ) → Writable z before residues.old error block.now from end → Written z before residues.new end result }
 {
     let mut all = error;
-    let mut at = from;
-    while at < end {
+    for at in from..end {
         let residue = block[at - from] as i64;
         residues[at] = residue;
         all += residue;
-        at += 1;
     }
     all
 }

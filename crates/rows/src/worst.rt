@@ -37,21 +37,19 @@ pub(crate) fn with_block(
     }
     Worst {
         size,
-        place: from + first_of(largest, end - from, block),
+        place: from + first_of(largest, &block[..end - from]),
     }
 }
 
-// The first of n places of a block that has a number of this size, or 64 where none has. It goes over all of them, and a place takes a byte,
+// The first place of a block that has a number of this size, or 64 where none has. It goes over all of them, and a place takes a byte,
 // so that the compiler takes several at a time: a search that ends where it finds one has a branch that is predicted wrongly.
-fn first_of(size: i32, n: usize, block: &[i32]) -> usize
-    requires { (n ≤ 64) × (n ≤ length block.now) × (nat_abs size < 2 ^ 31) }
-    ensures { First block.now (nat_abs size) n result }
+fn first_of(size: i32, block: &[i32]) -> usize
+    requires { (length block.now ≤ 64) × (nat_abs size < 2 ^ 31) }
+    ensures { First block.now (nat_abs size) (length block.now) result }
 {
     let mut first = 64;
-    let mut j = 0;
-    while j < n {
-        first = earlier(first, place_of(size, block[j], j));
-        j += 1;
+    for (j, number) in block.iter().enumerate() {
+        first = earlier(first, place_of(size, *number, j));
     }
     first as usize
 }

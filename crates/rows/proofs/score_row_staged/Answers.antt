@@ -1,24 +1,16 @@
--- The row is judged, and what is accepted is scored: its first pairs by blocks, and the others one by one.
-use Rattle.rows.proofs.RowOutcome.{begins, goes_on, refuse, room, score}
+-- The row is judged, and what is accepted is scored.
+use Rattle.std.proofs.Common.{refl}
+use Rattle.std.proofs.lemmas.Result.{err_from_is_err_and}
+use Rattle.rows.proofs.RowOutcome.{ready, refuse, score}
 use Rattle.rows.proofs.score_row_staged.Goals as goal
 
-pub returns-then-refusal-ne0 : goal.returns-then-refusal-ne0
-returns-then-refusal-ne0 c = refuse 3 _ _ _ _ c.of_row-refusal.ensures c.if-refusal-ne0.true
+pub returns-in_err-of_row : goal.returns-in_err-of_row
+returns-in_err-of_row c =
+    let p = err_from_is_err_and c.from_residual.result c.from_residual.ensures.1 in
+    rw (p.1, p.2) (refuse 3 _ _ _ _ c.in_err-of_row.ensures)
 
-pub staged-first-requires : goal.staged-first-requires
-staged-first-requires c = begins 3 _ _ _ _ c.of_row-refusal.ensures c.if-refusal-ne0.false c.in_blocks-to.ensures
-
-pub staged-sums-requires : goal.staged-sums-requires
-staged-sums-requires c = (_, goes_on 3 _ _ _ _ c.of_row-refusal.ensures c.if-refusal-ne0.false c.staged-first.ensures)
-
-pub report_of-requires : goal.report_of-requires
-report_of-requires c =
-    let judged = c.of_row-refusal.ensures in
-    let accepted = c.if-refusal-ne0.false in
-    room 3 _ _ _ _ judged accepted (c.staged-sums.ensures _ (goes_on 3 _ _ _ _ judged accepted c.staged-first.ensures))
+pub report-requires : goal.report-requires
+report-requires c = ready 3 _ _ _ _ c.in_ok-of_row.ensures
 
 pub returns : goal.returns
-returns c =
-    let judged = c.of_row-refusal.ensures in
-    let accepted = c.if-refusal-ne0.false in
-    score 3 _ _ _ _ judged accepted (c.staged-sums.ensures _ (goes_on 3 _ _ _ _ judged accepted c.staged-first.ensures)) c.report_of.ensures
+returns c = score 3 _ _ _ _ c.in_ok-of_row.ensures refl c.report.ensures

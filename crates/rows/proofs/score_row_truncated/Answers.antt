@@ -1,24 +1,16 @@
--- The row is judged, and what is accepted is scored: its first pairs by blocks, and the others one by one.
-use Rattle.rows.proofs.RowOutcome.{begins, goes_on, refuse, room, score}
+-- The row is judged, and what is accepted is scored, by kept bits that act as they are.
+use Rattle.std.proofs.Common.{refl}
+use Rattle.std.proofs.lemmas.Result.{err_from_is_err_and}
+use Rattle.rows.proofs.RowOutcome.{named, ready, refuse, score, truncated-as}
 use Rattle.rows.proofs.score_row_truncated.Goals as goal
 
-pub returns-then-refusal-ne0 : goal.returns-then-refusal-ne0
-returns-then-refusal-ne0 c = refuse 4 _ _ _ _ c.of_row-refusal.ensures c.if-refusal-ne0.true
+pub returns-in_err-of_row : goal.returns-in_err-of_row
+returns-in_err-of_row c =
+    let p = err_from_is_err_and c.from_residual.result c.from_residual.ensures.1 in
+    rw (p.1, p.2) (refuse 4 _ _ _ _ c.in_err-of_row.ensures)
 
-pub truncated-first-requires : goal.truncated-first-requires
-truncated-first-requires c = begins 4 _ _ _ _ c.of_row-refusal.ensures c.if-refusal-ne0.false c.in_blocks-to.ensures
-
-pub truncated-sums-requires : goal.truncated-sums-requires
-truncated-sums-requires c = (_, goes_on 4 _ _ _ _ c.of_row-refusal.ensures c.if-refusal-ne0.false c.truncated-first.ensures)
-
-pub report_of-requires : goal.report_of-requires
-report_of-requires c =
-    let judged = c.of_row-refusal.ensures in
-    let accepted = c.if-refusal-ne0.false in
-    room 4 _ _ _ _ judged accepted (c.truncated-sums.ensures _ (goes_on 4 _ _ _ _ judged accepted c.truncated-first.ensures))
+pub report-requires : goal.report-requires
+report-requires c = let row = ready 4 _ _ _ _ c.in_ok-of_row.ensures in named (truncated-as refl row) row
 
 pub returns : goal.returns
-returns c =
-    let judged = c.of_row-refusal.ensures in
-    let accepted = c.if-refusal-ne0.false in
-    score 4 _ _ _ _ judged accepted (c.truncated-sums.ensures _ (goes_on 4 _ _ _ _ judged accepted c.truncated-first.ensures)) c.report_of.ensures
+returns c = let judged = c.in_ok-of_row.ensures in score 4 _ _ _ _ judged (truncated-as refl (ready 4 _ _ _ _ judged)) c.report.ensures

@@ -10,14 +10,14 @@ use Rattle.rows.proofs.Turn.{written_next}
 use Rattle.rows.proofs.sums.write.Goals as goal
 
 pub loop-at-init : goal.loop-at-init
-loop-at-init c = (omega arith, c.requires.1.1.in_block.upward, λ z before ok. ok.written)
+loop-at-init c = (c.requires.1.1.in_block.upward, λ z before ok. ok.written)
 
 -- a residue of the block, the next to be written
 module _ (c : goal.After-residue-1) where
   -- what has been written so far
   so_far : (z : ℕ → ℤ) (before : List ℤ) → Writable z before c.args.residues.now c.args.error c.args.block.now c.args.from c.args.end
       → Written z before c.loop-at.residues c.loop-at.at (to_z w64 c.loop-at.all-bits)
-  so_far z before ok = c.loop-at.invariant.2 z before (rw (to_z-of_z c.ranges.error) ok)
+  so_far z before ok = c.loop-at.invariant.1 z before (rw (to_z-of_z c.ranges.error) ok)
 
   abbrev residue : ℤ
   residue = place c.args.block.now (c.loop-at.at - c.args.from)
@@ -41,14 +41,13 @@ module _ (c : goal.After-residue-1) where
   sum_fits =
       let asked = c.requires.1.1 in
       sized sum
-      (omega (arith, size-add (to_z w64 c.loop-at.all-bits) residue, small, (so_far _ _ asked).small, c.loop-at.invariant.1, asked.in_block.pairs))
+      (omega (arith, size-add (to_z w64 c.loop-at.all-bits) residue, small, (so_far _ _ asked).small, c.loop-at.invariant.0, asked.in_block.pairs))
 
 pub overflow_add-all : goal.overflow_add-all
 overflow_add-all c = fits-as (sum_is c) (sum_fits c)
 
 pub loop-at-preserved : goal.loop-at-preserved
 loop-at-preserved c = (
-  omega arith,
   omega arith,
   λ z before ok. let asked = rw (to_z-of_z c.ranges.error) at ok in
       rw (wide c, to_z-of_z (sum_fits c))
@@ -58,5 +57,5 @@ loop-at-preserved c = (
 
 pub returns : goal.returns
 returns c z before ok =
-    let end : c.args.end ≡ c.loop-at.at = omega (arith, c.loop-at-test.false, c.loop-at.invariant.1) in
-    rw end (c.loop-at.invariant.2 z before (rw (to_z-of_z c.ranges.error) ok))
+    let end : c.args.end ≡ c.loop-at.at = omega (arith, c.loop-at-test.false, c.loop-at.invariant.0) in
+    rw end (c.loop-at.invariant.1 z before (rw (to_z-of_z c.ranges.error) ok))

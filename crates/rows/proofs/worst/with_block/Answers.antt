@@ -1,6 +1,7 @@
 -- A block that is not worse keeps the worst, and of a worse one the first place is looked for.
 use Rattle.std.proofs.Common.{◌≡◌, ℕ, ℤ, pos, nat_abs, ap, ◌∙◌, w32, SFits, to_z, of_z, to_z-of_z}
 use Rattle.rows.proofs.Block.{not-worse, worse}
+use Rattle.rows.proofs.First.{of-front}
 use Rattle.rows.proofs.worst.with_block.Goals as goal
 
 -- the size that is read is the largest, for any residues that the caller names
@@ -13,4 +14,4 @@ returns-then-size-worst c z ok = not-worse ok (rw (size_is c.ranges.largest ok.i
 pub returns : goal.returns
 returns c z ok =
     let size = size_is c.ranges.largest ok.is in
-    rw size (worse ok (rw size at c.if-size-worst.false) (rw size at c.first_of.ensures))
+    rw size (worse ok (rw size at c.if-size-worst.false) (of-front ok.in_block.places (rw size at c.first_of.ensures)))
