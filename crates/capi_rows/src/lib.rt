@@ -14,14 +14,14 @@ pub struct ScoredRow {
 }
 
 // An answer of a row, laid out for C.
-pub fn laid(answer: rows::Scored) -> ScoredRow
+pub fn laid(answer: Result<rows::RowReport, refusals::Refusal>) -> ScoredRow
     ensures { RowLaid (given answer) result }
 {
     match answer {
-        rows::Scored::Report(report) => ScoredRow { report, refusal: 0 },
-        rows::Scored::Refused(refusal) => ScoredRow {
+        Ok(report) => ScoredRow { report, refusal: 0 },
+        Err(refusal) => ScoredRow {
             report: rows::RowReport::empty(),
-            refusal,
+            refusal: u32::from(refusal),
         },
     }
 }
