@@ -42,7 +42,7 @@ impl ByBlocks<BLOCK> for Mitchell {
     ghost holds = { λ d ws fs before after s t. of-taken t };
 
     fn fill(self, weights: &[i16], frame: &[i16], block: &mut [i32; BLOCK]) -> BlockSums {
-        together(self, weights, frame, block)
+        together::<Mitchell>(self, weights, frame, block)
     }
 }
 
@@ -87,7 +87,7 @@ impl ByBlocks<BLOCK> for Truncated {
     ghost holds = { λ d ws fs before after s t. of-taken t };
 
     fn fill(self, weights: &[i16], frame: &[i16], block: &mut [i32; BLOCK]) -> BlockSums {
-        together(self, weights, frame, block)
+        together::<Truncated>(self, weights, frame, block)
     }
 }
 
@@ -99,7 +99,7 @@ impl ByBlocks<BLOCK> for TwiceTruncated {
     ghost holds = { λ d ws fs before after s t. of-taken t };
 
     fn fill(self, weights: &[i16], frame: &[i16], block: &mut [i32; BLOCK]) -> BlockSums {
-        together(self, weights, frame, block)
+        together::<TwiceTruncated>(self, weights, frame, block)
     }
 }
 

@@ -1,8 +1,7 @@
 -- Each turn takes a block, and `add` takes what was reached as far as the block goes.
-use Rattle.std.proofs.Common.{◌≡◌, ◌+◌, ◌*◌, ◌^◌, ◌<◌, arith}
+use Rattle.std.proofs.Common.{◌*◌, ◌^◌, ◌<◌, arith}
 use Rattle.std.proofs.lemmas.List.{length-replicate}
-use Rattle.rows.proofs.ByBlocks.{begun, Blocks, ended, filled, none, on}
-use Rattle.rows.proofs.by_blocks.by_blocks.Given.{Over}
+use Rattle.rows.proofs.ByBlocks.{begun, ended, filled, none, on}
 use Rattle.rows.proofs.by_blocks.by_blocks.Goals as goal
 use Rattle.rows.proofs.by_blocks.by_blocks.Goals.{After-add-sums}
 
@@ -22,20 +21,11 @@ pub add-sums-requires : goal.add-sums-requires
 add-sums-requires g c =
     (_, (_, (_, (_, filled c.loop-at.invariant c.fewer.ensures g.met.D.ByBlocks.room.0 (g.met.D.ByBlocks.holds _ _ _ _ _ _ c.fill-all.ensures)))))
 
--- how far the row has been reached with a block
-then : (g : Over) (c : After-add-sums g) → Blocks (g.D.Multiplier.design c.args.d) g.row.N c.args.weights.now c.args.frame.now c.args.residues.now c.add-sums.new.residues c.args.to (c.loop-at.at + c.fewer.result) c.add-sums.result c.fill-all.new.block
-then g c =
+pub loop-at-preserved : goal.loop-at-preserved
+loop-at-preserved g c =
     let block = g.met.D.ByBlocks.holds _ _ _ _ _ _ c.fill-all.ensures in
     on c.loop-at.invariant c.fewer.ensures block.size
     (c.add-sums.ensures _ _ _ _ (filled c.loop-at.invariant c.fewer.ensures g.met.D.ByBlocks.room.0 block))
 
-pub loop-at-preserved : goal.loop-at-preserved
-loop-at-preserved g c =
-    let whole : c.loop-at.at + 64 ≡ c.loop-at.at + c.fewer.result = omega (arith, c.fewer.ensures) in
-    rw whole (then g (goal.at.loop-at-preserved g c).After-add-sums)
-
-pub returns-else-to-eq0 : goal.returns-else-to-eq0
-returns-else-to-eq0 g c = ended c.loop-at.invariant c.loop-at-test.false
-
-pub returns-else-to-eq0-2 : goal.returns-else-to-eq0-2
-returns-else-to-eq0-2 g c = ended (then g (goal.at.returns-else-to-eq0-2 g c).After-add-sums) (omega (arith, c.fewer.ensures))
+pub returns : goal.returns
+returns g c = ended c.loop-at.invariant c.loop-at-test.false
