@@ -67,9 +67,9 @@ module _ (us vs : List ℤ) {n : ℕ} (size : length us ≡ n) where
 
   pub both-small : Small (n + n) (us ++ vs) → Small (length us) us × Small (length us) vs
   both-small s = (
-      record { room = omega arith; at = λ k h. rw (sym (front_at k (omega arith))) (s.at k (omega arith)) },
-      record { room = omega (arith, s.room, length-append us vs); at = λ k h. rw (sym (behind_at k)) (s.at (n + k) (omega arith)) },
-    )
+    record { room = omega arith; at = λ k h. rw (sym (front_at k (omega arith))) (s.at k (omega arith)) },
+    record { room = omega (arith, s.room, length-append us vs); at = λ k h. rw (sym (behind_at k)) (s.at (n + k) (omega arith)) },
+  )
 
   pub products : {part : List ℤ} → Done (λ k. place us k *ℤ place vs k) (length us) us part
       → Done (λ k. place (us ++ vs) k *ℤ place (us ++ vs) (n + k)) n (us ++ vs) (part ++ vs)

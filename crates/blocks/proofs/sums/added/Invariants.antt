@@ -6,4 +6,3 @@ use Rattle.blocks.proofs.sums.added.Given as goal
 
 abbrev pub invariant-loop-j : goal.invariant-loop-j
 invariant-loop-j l = (l.j ≤ l.n) × Adds (place l.block) (place l.weights) (place l.frame) l.j l.sums
-
