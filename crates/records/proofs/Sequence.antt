@@ -73,3 +73,14 @@ pub records-next : (s : List ℕ) → 0 < length s → records_of s ≡ record_o
 unfolding records_of
 records-next [] h = absurd (omega arith)
 records-next (x ∷ s) h = ap (λ (l : List Record). record_of (x ∷ s) ∷ l) (enough (length s) (length (rest x s)) (rest x s) (shorter x s) (omega arith))
+
+-- the record x that is read at the start of s, and what follows it, as the code lends it
+module _ (s : List ℕ) {x : Record} (read : x ≡ record_of s) (some : 0 < length s) where
+  pub forward : (0 < x.used) × (x.used ≤ length s)
+  forward = rw read (moves s some)
+
+  pub first-and-rest : records_of s ≡ x ∷ records_of (take (length s - x.used) (drop x.used s))
+  first-and-rest = records-next s some ∙ rw (← read, tail s x.used)
+
+  pub fewer : length (records_of (take (length s - x.used) (drop x.used s))) < length (records_of s)
+  fewer = rw first-and-rest (omega arith)

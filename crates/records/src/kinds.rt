@@ -1,69 +1,87 @@
-// The kinds of records: how long the body of each is, and its operation. A further kind is an arm of each of the two matches.
+// The kinds of records. A further kind is a variant, and an arm of each of the three matches.
 ghost use Rattle.std.specs.Prelude.{◌≡◌, length};
-ghost use Rattle.products.specs.Answers.{signed_given};
-ghost use Rattle.singles.specs.Answers.{pattern_given};
-ghost use Rattle.records.specs.Kinds.{natural, signed_record, single_record, table_record, kind_of};
+ghost use Rattle.designs.specs.Outcomes.{accepted};
+ghost use Rattle.refusals.specs.Refusals.{answer};
+ghost use Rattle.records.specs.Kinds.{kind_of, signed_record, single_record, table_record};
+ghost use Rattle.records.specs.Answers.{KindRead, number};
 
-// The length of a kind's body; 0 for a kind that is unknown.
-pub(crate) fn body_length(kind: u8) -> usize
-    ensures { result ≡ (kind_of kind).body }
-{
-    match kind {
-        1 => 6,
-        2 => 8,
-        3 => 2,
-        _ => 0,
+use crate::{Answer, Refusal, fields};
+
+// What a record asks for.
+#[derive(Clone, Copy, Debug, PartialEq, Eq)]
+pub enum Kind {
+    SignedProduct,
+    SingleProduct,
+    TableProduct,
+}
+
+impl TryFrom<u8> for Kind {
+    type Error = Refusal;
+
+    ghost try_from_gives = { KindRead };
+
+    #[tactic(auto, unfolding(crate::specs::Kinds::kind_of))]
+    fn try_from(byte: u8) -> Result<Kind, Refusal> {
+        match byte {
+            1 => Ok(Kind::SignedProduct),
+            2 => Ok(Kind::SingleProduct),
+            3 => Ok(Kind::TableProduct),
+            _ => Err(Refusal::UnknownKind),
+        }
     }
 }
 
-// The answer of a record with a whole body.
-pub(crate) fn answer_of(kind: u8, body: &[u8]) -> crate::Answer
-    requires { length body.now ≡ (kind_of kind).body }
-    ensures { signed_given result ≡ (kind_of kind).outcome body.now }
-{
-    match kind {
-        1 => signed_record(body),
-        2 => single_record(body),
-        3 => table_record(body),
-        _ => crate::Answer::Refused(refusals::UNKNOWN_KIND),
+impl Kind {
+    #[tactic(auto, unfolding(crate::specs::Kinds::kind_of))]
+    pub fn body_length(self) -> usize
+        ensures { result ≡ (kind_of (number self)).body }
+    {
+        match self {
+            Kind::SignedProduct => 6,
+            Kind::SingleProduct => 8,
+            Kind::TableProduct => 2,
+        }
+    }
+
+    // The answer of a record with a whole body.
+    #[tactic(auto, unfolding(crate::specs::Kinds::kind_of))]
+    pub(crate) fn answer(self, body: &[u8]) -> Answer
+        requires { length body.now ≡ (kind_of (number self)).body }
+        ensures { answer result ≡ (kind_of (number self)).outcome body.now }
+    {
+        match self {
+            Kind::SignedProduct => signed_record(body),
+            Kind::SingleProduct => single_record(body),
+            Kind::TableProduct => Ok(table_record(body)),
+        }
     }
 }
 
-// Kind 1: a signed product at width 16.
-fn signed_record(body: &[u8]) -> crate::Answer
+// A signed product at width 16.
+fn signed_record(body: &[u8]) -> Answer
     requires { length body.now ≡ 6 }
-    ensures { signed_given result ≡ signed_record body.now }
+    ensures { answer result ≡ signed_record body.now }
 {
-    let design = crate::fields::byte(body[0]);
-    let setting = crate::fields::byte(body[1]);
-    let x = crate::fields::signed_two_bytes(body, 2);
-    let y = crate::fields::signed_two_bytes(body, 4);
-    products::signed_product(design, 16, setting, x, y)
+    let x = fields::signed_two_bytes(body, 2);
+    let y = fields::signed_two_bytes(body, 4);
+    products::signed_product(body[0] as u32, 16, body[1] as u32, x, y)
 }
 
-// Kind 2: a single product.
-fn single_record(body: &[u8]) -> crate::Answer
+// A single product: its pattern.
+fn single_record(body: &[u8]) -> Answer
     requires { length body.now ≡ 8 }
-    ensures { signed_given result ≡ single_record body.now }
+    ensures { answer result ≡ single_record body.now }
 {
-    let x = crate::fields::four_bytes(body, 0);
-    let y = crate::fields::four_bytes(body, 4);
-    of_pattern(singles::bits(singles::single_product(x, y)))
+    let x = fields::four_bytes(body, 0);
+    let y = fields::four_bytes(body, 4);
+    let pattern = singles::bits(singles::single_product(x, y))?;
+    Ok(pattern as i64)
 }
 
-// Kind 3: a product by the table.
-fn table_record(body: &[u8]) -> crate::Answer
+// A product by the table.
+fn table_record(body: &[u8]) -> i64
     requires { length body.now ≡ 2 }
-    ensures { signed_given result ≡ table_record body.now }
+    ensures { accepted result ≡ table_record body.now }
 {
-    crate::Answer::Value(byte_table::table_product(body[0], body[1]) as i64)
-}
-
-fn of_pattern(pattern: singles::Pattern) -> crate::Answer
-    ensures { signed_given result ≡ natural (pattern_given pattern) }
-{
-    match pattern {
-        singles::Pattern::Value(p) => crate::Answer::Value(p as i64),
-        singles::Pattern::Refused(n) => crate::Answer::Refused(n),
-    }
+    byte_table::table_product(body[0], body[1]) as i64
 }

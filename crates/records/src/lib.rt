@@ -1,94 +1,123 @@
 // The first record of the bench's input, framed and evaluated (docs/SCOPE.md, "Reading records"). Any bytes and any place are accepted.
 #![tactic(auto)]
 
-ghost use Rattle.std.specs.Prelude.{◌≡◌};
+ghost use Rattle.std.specs.Prelude.{◌≡◌, IfOk};
 ghost use Rattle.records.specs.Frames.{frame};
 ghost use Rattle.records.specs.Records.{record_of, next_at};
-ghost use Rattle.records.specs.Answers.{frame_given, entry_given, reading_given};
+ghost use Rattle.records.specs.Answers.{number, KindOf, frame_given, entry_given, reading_given};
 
 mod fields;
 mod kinds;
 
-// The result of a record's operation, or the number of the refusal, as for a signed product.
-pub type Answer = products::Signed;
+pub use kinds::Kind;
+pub use refusals::Refusal;
 
-// Which bytes are a record, before anything is computed: its kind, the refusal of the reading or 0, and how many bytes it takes.
-// One that the reading refuses takes all that is left.
-#[derive(Clone, Copy)]
+// The result of a record's operation, or the refusal, as for a signed product.
+pub type Answer = Result<i64, Refusal>;
+
+// Which bytes are a record, before anything is computed: the byte of its kind, the kind of a whole record or the refusal of the reading, and
+// how many bytes it takes. One that the reading refuses takes all that is left.
+#[derive(Clone, Copy, Debug, PartialEq, Eq)]
 pub struct Frame {
     pub kind: u8,
-    pub refusal: u32,
+    pub reading: Result<Kind, Refusal>,
     pub used: usize,
 }
 
-// A record that was read: its kind, its answer, and how many bytes it takes.
-#[derive(Clone, Copy)]
+// A record that was read: the byte of its kind, its answer, and how many bytes it takes.
+#[derive(Clone, Copy, Debug, PartialEq, Eq)]
 pub struct Entry {
     pub kind: u8,
     pub answer: Answer,
     pub used: usize,
 }
 
-// What stands at a place: a record, or nothing where the input has ended.
-#[derive(Clone, Copy)]
-pub enum Reading {
-    Found(Entry),
-    End,
-}
-
-// The record at a place of an input.
-pub fn read_record(input: &[u8], at: usize) -> Reading
+// The record at a place of an input, or `None` where the input has ended.
+pub fn read_record(input: &[u8], at: usize) -> Option<Entry>
     ensures { reading_given result ≡ next_at input.now at }
 {
     if at < input.len() {
-        let entry = first_record(&input[at..]);
-        return Reading::Found(entry);
+        Some(first_record(&input[at..]))
+    } else {
+        None
     }
-    Reading::End
 }
 
 // The first record of an input, evaluated.
 pub fn first_record(s: &[u8]) -> Entry
     ensures { entry_given result ≡ record_of s.now }
 {
-    let framed = first_frame(s);
-    let kind = framed.kind;
-    let refusal = framed.refusal;
-    let used = framed.used;
-    if refusal != 0 {
-        return Entry {
-            kind,
-            answer: Answer::Refused(refusal),
-            used,
-        };
-    }
-    let answer = kinds::answer_of(kind, &s[1..used]);
+    let Frame {
+        kind,
+        reading,
+        used,
+    } = first_frame(s);
+    let answer = match reading {
+        Ok(known) => known.answer(&s[1..used]),
+        Err(refusal) => Err(refusal),
+    };
     Entry { kind, answer, used }
 }
 
 // The frame of an input's first record. An input that has ended frames as a record of the unknown kind 0 that takes nothing.
 pub fn first_frame(s: &[u8]) -> Frame
-    ensures { frame_given result ≡ frame s.now }
+    ensures frame { frame_given result ≡ frame s.now }
+    ensures kind { IfOk result.reading (λ k. number k ≡ result.kind) }
 {
     let kind = fields::first_byte(s);
-    let body = kinds::body_length(kind);
-    if body == 0 {
-        return Frame {
-            kind,
-            refusal: refusals::UNKNOWN_KIND,
-            used: s.len(),
-        };
-    }
-    if s.len() <= body {
-        return Frame {
-            kind,
-            refusal: refusals::CUT_SHORT,
-            used: s.len(),
-        };
-    }
+    let reading = read_kind(kind, s.len());
+    let used = match reading {
+        Ok(known) => 1 + known.body_length(),
+        Err(_) => s.len(),
+    };
     Frame {
         kind,
-        refusal: 0,
-        used: 1 + body,
+        reading,
+        used,
+    }
+}
+
+// The kind that a byte names, where so many bytes, the kind's included, hold its body.
+fn read_kind(byte: u8, left: usize) -> Result<Kind, Refusal>
+    ensures { KindOf byte left result }
+{
+    let kind = Kind::try_from(byte)?;
+    if left <= kind.body_length() {
+        return Err(Refusal::CutShort);
+    }
+    Ok(kind)
+}
+
+// The records of an input, one after the other.
+#[derive(Clone, Copy)]
+pub struct Records<'a> {
+    left: &'a [u8],
+}
+
+impl<'a> Records<'a> {
+    pub fn new(input: &'a [u8]) -> Records<'a>
+        ensures { result.left.now ≡ input.now }
+    {
+        Records { left: input }
+    }
+}
+
+impl<'a> Iterator for Records<'a> {
+    ghost use Rattle.std.specs.Iterator.{YieldsFirstBy, item_count};
+    ghost use Rattle.records.specs.Answers.{records_left};
+
+    type Item = Entry;
+
+    ghost next_gives = { YieldsFirstBy entry_given records_left };
+
+    ghost remaining = { item_count records_left };
+
+    fn next(&mut self) -> Option<Entry> {
+        if self.left.is_empty() {
+            return None;
+        }
+        let entry = first_record(self.left);
+        self.left = &self.left[entry.used..];
+        Some(entry)
     }
 }

@@ -1,21 +1,13 @@
--- `first_frame` makes the tests of `reading_refusals` in their order; each return is the frame of what they gave.
-use Rattle.std.proofs.Common.{refl}
-use borrow.Author.Tests.{eq-eqb, ne_eqb, le-leb, lt-leb}
-use Rattle.designs.specs.Outcomes.{first}
-use Rattle.records.specs.Frames.{reading_refusals}
-use Rattle.records.proofs.Framing.{framed}
+-- `first_frame` is the frame of what the reading gave: a whole record takes its kind's byte and its body, and one that is refused all that is left.
+use Rattle.std.proofs.Common.{arith}
+use Rattle.records.proofs.Framing.{framed-refused, framed-whole, has_body}
 use Rattle.records.proofs.first_frame.Goals as goal
 
-pub returns-then-body-eq0 : goal.returns-then-body-eq0
-unfolding first reading_refusals
-returns-then-body-eq0 c = framed _ c.first_byte-kind.ensures c.body_length-body.ensures (simp (eq-eqb _ _ c.if-body-eq0.true)) refl
+pub overflow_add-used : goal.overflow_add-used
+overflow_add-used c = omega (arith, (has_body c.in-Ok.known).1)
 
-pub returns-then-s-body : goal.returns-then-s-body
-unfolding first reading_refusals
-returns-then-s-body c =
-    framed _ c.first_byte-kind.ensures c.body_length-body.ensures (simp (ne_eqb _ _ c.if-body-eq0.false, le-leb _ _ c.if-s-body.true)) refl
+pub returns-in-Ok-clause-frame : goal.returns-in-Ok-clause-frame
+returns-in-Ok-clause-frame c = framed-whole _ c.first_byte-kind.ensures _ c.in-Ok.ensures c.body_length.ensures
 
-pub returns : goal.returns
-unfolding first reading_refusals
-returns c =
-    framed _ c.first_byte-kind.ensures c.body_length-body.ensures (simp (ne_eqb _ _ c.if-body-eq0.false, lt-leb _ _ c.if-s-body.false)) refl
+pub returns-in-Err-clause-frame : goal.returns-in-Err-clause-frame
+returns-in-Err-clause-frame c = rw c.in-Err.is (framed-refused _ c.first_byte-kind.ensures _ c.in-Err.ensures)

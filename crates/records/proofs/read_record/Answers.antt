@@ -8,8 +8,8 @@ use Rattle.records.proofs.read_record.Goals as goal
 pub returns-then-at-input : goal.returns-then-at-input
 unfolding next_at
 returns-then-at-input c =
-    simp (lt-ltb _ _ c.if-at-input.true) (ap found (c.first_record-entry.ensures ∙ ap record_of (tail c.args.input.now c.args.at)))
+    simp (lt-ltb _ _ c.if-at-input.true) (ap found (c.first_record.ensures ∙ ap record_of (tail c.args.input.now c.args.at)))
 
-pub returns : goal.returns
+pub returns-else-at-input : goal.returns-else-at-input
 unfolding next_at
-returns c = simp (le-ltb _ _ c.if-at-input.false)
+returns-else-at-input c = simp (le-ltb _ _ c.if-at-input.false)

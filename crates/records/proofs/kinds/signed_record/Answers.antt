@@ -9,5 +9,4 @@ unfolding signed_record
 returns c =
     let x = read_back c.signed_two_bytes-x.result c.signed_two_bytes-x.type_inv in
     let y = read_back c.signed_two_bytes-y.result c.signed_two_bytes-y.type_inv in
-    (simp (x, y) at c.signed_product.ensures)
-    ∙ simp (c.byte-design.ensures.0, c.byte-setting.ensures.0, c.signed_two_bytes-x.ensures, c.signed_two_bytes-y.ensures)
+    (simp (x, y) at c.signed_product.ensures) ∙ simp (c.signed_two_bytes-x.ensures, c.signed_two_bytes-y.ensures)
