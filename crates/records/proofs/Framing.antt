@@ -19,8 +19,8 @@ use Rattle.records.specs.declared.kinds.Kind.TheVariants as K
 use Rattle.records.specs.Kinds.{kind_of}
 use Rattle.records.specs.Frames.{Frame, reading_refusals, takes, frame}
 
--- a kind has a body, of at most 8 bytes
-pub has_body : (k : Kind) → (0 < (kind_of (number k)).body) × ((kind_of (number k)).body ≤ 8)
+-- a kind has a body, of fewer than 256 bytes
+pub has_body : (k : Kind) → (0 < (kind_of (number k)).body) × ((kind_of (number k)).body < 256)
 unfolding kind_of
 has_body K.SignedProduct = (omega arith, omega arith)
 has_body K.SingleProduct = (omega arith, omega arith)

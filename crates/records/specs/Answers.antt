@@ -38,6 +38,6 @@ abbrev pub reading_given : Option Entry → Next
 reading_given (Some e) = found (entry_given e)
 reading_given None = ended
 
--- the records that are still to be read
-unfoldable pub records_left : Records → List Record
+-- The records that are still to be read.
+abbrev pub records_left : Records → List Record
 records_left r = records_of r.left.now

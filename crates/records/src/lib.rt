@@ -3,8 +3,8 @@
 
 ghost use Rattle.std.specs.Prelude.{◌≡◌, IfOk};
 ghost use Rattle.records.specs.Frames.{frame};
-ghost use Rattle.records.specs.Records.{record_of, next_at};
-ghost use Rattle.records.specs.Answers.{number, KindOf, frame_given, entry_given, reading_given};
+ghost use Rattle.records.specs.Records.{record_of, next_at, records_of};
+ghost use Rattle.records.specs.Answers.{number, KindOf, frame_given, entry_given, reading_given, records_left};
 
 mod fields;
 mod kinds;
@@ -52,6 +52,7 @@ pub fn first_record(s: &[u8]) -> Entry
         reading,
         used,
     } = first_frame(s);
+    // A refused record is an entry too, so no `?`.
     let answer = match reading {
         Ok(known) => known.answer(&s[1..used]),
         Err(refusal) => Err(refusal),
@@ -96,7 +97,7 @@ pub struct Records<'a> {
 
 impl<'a> Records<'a> {
     pub fn new(input: &'a [u8]) -> Records<'a>
-        ensures { result.left.now ≡ input.now }
+        ensures { records_left result ≡ records_of input.now }
     {
         Records { left: input }
     }

@@ -1,5 +1,5 @@
 -- `first_record` frames the record, and hands the body of one that is whole to its kind.
-use Rattle.std.proofs.Common.{arith, ap, ◌∙◌, ◌≡◌, ◌+◌, ◌≤◌, length}
+use Rattle.std.proofs.Common.{arith, ap, ◌≡◌, ◌+◌, ◌≤◌, length}
 use lib.ListN.{length-take, length-drop}
 use Rattle.refusals.proofs.Judging.{numbered}
 use Rattle.refusals.specs.Refusals.{refused_by}
