@@ -51,6 +51,17 @@ no-records zero s h = refl
 no-records (suc f) [] h = refl
 no-records (suc f) (x ∷ s) h = absurd (omega arith)
 
+-- there are no more than were allowed, and so no more than bytes
+few-within : (most : ℕ) (s : List ℕ) → length (records_within most s) ≤ most
+unfolding records_within
+few-within zero s = omega arith
+few-within (suc most) [] = omega arith
+few-within (suc most) (x ∷ s) = omega (arith, few-within most (drop (record_of (x ∷ s)).used (x ∷ s)))
+
+pub few : (s : List ℕ) → length (records_of s) ≤ length s
+unfolding records_of
+few s = few-within (length s) s
+
 -- what is left after the first record
 module _ (x : ℕ) (s : List ℕ) where
   abbrev rest : List ℕ

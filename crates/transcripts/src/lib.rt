@@ -3,12 +3,17 @@
 #![tactic(auto)]
 
 ghost use Rattle.records.specs.Records.{records_of};
-ghost use Rattle.transcripts.specs.Text.{Room, Put};
+ghost use Rattle.refusals.specs.Refusals.{number};
+ghost use Rattle.transcripts.specs.Answers.{HasRoom, Appended};
 ghost use Rattle.transcripts.specs.Lines.{none, printed};
 ghost use Rattle.transcripts.specs.Transcripts.{unread, Written};
 
 mod lines;
 mod writers;
+
+use lines::Tally;
+use records::{Records, Refusal};
+use writers::Text;
 
 // The most bytes that are read, and the bytes that hold the transcript of any input.
 pub const INPUT_MAX: usize = 65536;
@@ -19,38 +24,41 @@ pub const TRANSCRIPT_MAX: usize = 245760;
 pub fn transcript(input: &[u8], out: &mut [u8; TRANSCRIPT_MAX]) -> usize
     ensures { Written input.now out.old out.new result }
 {
+    let mut text = Text {
+        buffer: out,
+        len: 0,
+    };
     if INPUT_MAX < input.len() {
-        put_refusal(refusals::INPUT_TOO_LONG, out)
+        text.put_refusal(Refusal::InputTooLong);
     } else {
-        put_records(input, out)
+        text.put_records(input);
     }
+    text.len
 }
 
-// What is printed of an input that is refused with n.
-fn put_refusal(n: u32, out: &mut [u8]) -> usize
-    requires { Room out.old 0 (printed none (unread n)) }
-    ensures { Put out.old 0 (printed none (unread n)) out.new result }
-{
-    let answer = records::Answer::Refused(n);
-    let place = lines::put_line(out, 0, 0, answer);
-    let tally = lines::count(lines::NO_RECORDS, answer);
-    lines::put_total(out, place, tally)
-}
-
-// The lines of all records, and the total.
-fn put_records(s: &[u8], out: &mut [u8]) -> usize
-    requires { Room out.old 0 (printed none (records_of s.now)) }
-    ensures { Put out.old 0 (printed none (records_of s.now)) out.new result }
-{
-    let mut at = 0;
-    let mut place = 0;
-    let mut tally = lines::NO_RECORDS;
-    while at < s.len() {
-        let entry = records::first_record(&s[at..]);
-        let answer = entry.answer;
-        place = lines::put_line(out, place, entry.kind, answer);
-        tally = lines::count(tally, answer);
-        at += entry.used;
+impl<'a> Text<'a> {
+    // What is printed of an input that is refused.
+    fn put_refusal(&mut self, refusal: Refusal)
+        requires { HasRoom self.old (printed none (unread (number refusal))) }
+        ensures { Appended self.old (printed none (unread (number refusal))) self.new }
+    {
+        let answer = Err(refusal);
+        let mut tally = Tally::default();
+        tally.count(answer);
+        self.put_line(0, answer);
+        self.put_total(tally);
     }
-    lines::put_total(out, place, tally)
+
+    // The lines of all records, and the total.
+    fn put_records(&mut self, s: &[u8])
+        requires { HasRoom self.old (printed none (records_of s.now)) }
+        ensures { Appended self.old (printed none (records_of s.now)) self.new }
+    {
+        let mut tally = Tally::default();
+        for entry in Records::new(s) {
+            self.put_line(entry.kind, entry.answer);
+            tally.count(entry.answer);
+        }
+        self.put_total(tally);
+    }
 }
