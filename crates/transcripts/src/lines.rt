@@ -1,6 +1,7 @@
 // The lines that records print, and what they count for.
 ghost use Rattle.std.specs.Prelude.{◌≡◌, ◌^◌, ◌<◌};
 ghost use Rattle.refusals.specs.Refusals.{answer};
+ghost use Rattle.transcripts.specs.Text.{ascii};
 ghost use Rattle.transcripts.specs.Lines.{line, total_line, counted};
 ghost use Rattle.transcripts.specs.Answers.{HasRoom, Appended, tally_given};
 
@@ -44,7 +45,7 @@ impl<'a> Text<'a> {
                 self.put_number(u32::from(refusal) as u64);
             }
         }
-        self.put(b'\n');
+        self.end_line();
     }
 
     // The last line.
@@ -56,6 +57,13 @@ impl<'a> Text<'a> {
         self.put_number(tally.accepted);
         self.put(b' ');
         self.put_number(tally.refused);
+        self.end_line();
+    }
+
+    fn end_line(&mut self)
+        requires { HasRoom self.old (ascii "\n") }
+        ensures { Appended self.old (ascii "\n") self.new }
+    {
         self.put(b'\n');
     }
 }

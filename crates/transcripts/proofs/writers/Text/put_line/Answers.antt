@@ -45,8 +45,8 @@ worded c =
       | in-Err w ↦ rw (w.self-is, w.in-Err.is) (then w.put_bytes-in-Err.ensures (rw w.from.ensures at w.put_number-in-Err.ensures))
     ]
 
-pub put-requires : goal.put-requires
-put-requires c = room _ (worded (goal.at.put-requires c).Joined-outcome) (room _ c.put_number.ensures (rw pieces at c.requires))
+pub end_line-requires : goal.end_line-requires
+end_line-requires c = room _ (worded (goal.at.end_line-requires c).Joined-outcome) (room _ c.put_number.ensures (rw pieces at c.requires))
 
 pub returns : goal.returns
-returns c = rw pieces (then c.put_number.ensures (then (worded (goal.at.returns c).Joined-outcome) c.put.ensures))
+returns c = rw pieces (then c.put_number.ensures (then (worded (goal.at.returns c).Joined-outcome) c.end_line.ensures))

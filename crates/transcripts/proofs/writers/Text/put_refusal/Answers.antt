@@ -9,10 +9,10 @@ put_line-requires c = fit _ c.requires
 
 pub put_total-requires : goal.put_total-requires
 unfolding printed
-put_total-requires c = rw (c.count.ensures, c.default-tally.ensures.0, c.default-tally.ensures.1) (room _ c.put_line.ensures c.requires)
+put_total-requires c = simp (c.count.ensures, c.default-tally.ensures.0, c.default-tally.ensures.1) (room _ c.put_line.ensures c.requires)
 
 pub returns : goal.returns
 unfolding printed
 returns c =
     then c.put_line.ensures
-    (rw (c.count.ensures, c.default-tally.ensures.0, c.default-tally.ensures.1) at c.put_total.ensures)
+    (simp (c.count.ensures, c.default-tally.ensures.0, c.default-tally.ensures.1) at c.put_total.ensures)

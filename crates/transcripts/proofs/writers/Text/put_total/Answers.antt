@@ -19,10 +19,10 @@ pub put_number-requires-2 : goal.put_number-requires-2
 unfolding total_line
 put_number-requires-2 c = fit _ (room _ (then c.put_number.ensures c.put.ensures) (room _ c.put_bytes.ensures c.requires))
 
-pub put-requires-2 : goal.put-requires-2
+pub end_line-requires : goal.end_line-requires
 unfolding total_line
-put-requires-2 c = room _ c.put_number-2.ensures (room _ (then c.put_number.ensures c.put.ensures) (room _ c.put_bytes.ensures c.requires))
+end_line-requires c = room _ c.put_number-2.ensures (room _ (then c.put_number.ensures c.put.ensures) (room _ c.put_bytes.ensures c.requires))
 
 pub returns : goal.returns
 unfolding total_line
-returns c = then c.put_bytes.ensures (then (then c.put_number.ensures c.put.ensures) (then c.put_number-2.ensures c.put-2.ensures))
+returns c = then c.put_bytes.ensures (then (then c.put_number.ensures c.put.ensures) (then c.put_number-2.ensures c.end_line.ensures))
