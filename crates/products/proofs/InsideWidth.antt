@@ -1,28 +1,17 @@
--- Operands inside a width: the test of a signed one by its sign and its size, widths that hold every 64-bit number, and what a width of at
--- most 32 bits leaves to the kernels. Each goes by the two constructors of ℤ or by the growth of powers.
-use mathlib.Core.Path.{◌≡◌, refl, sym}
+-- Operands inside a width: widths that hold every 64-bit number, and what a width of at most 32 bits leaves to the kernels. Each goes by
+-- the two constructors of ℤ or by the growth of powers.
+use mathlib.Core.Path.{◌≡◌, sym}
 use Prim.Native.Nat.{ℕ, suc, ◌-◌, ◌*◌, ◌^◌, ◌≤◌, ◌<◌}
 use native.Mathlib.Nat.{le_trans, lt_of_lt_of_le}
 use native.Mathlib.Omega.{arith}
-use mathlib.Core.Bool.{true, false, false≢true}
+use mathlib.Core.Bool.{true}
 use borrow.Author.Tests.{le-leb}
-use lib.Dec.{leb}
 use lib.IntN.{ℤ, pos, negsuc, nat_abs}
 use lib.Pow.{pow_mono}
 use Rattle.designs.specs.Designs.{Design, KeepsBit}
 use Rattle.designs.specs.Products.{inside_unsigned, inside_signed}
-use Rattle.designs.specs.Signs.{negative}
 use Rattle.designs.proofs.Inside.{unsigned-size, signed-size, signed_lt}
 use Rattle.products.specs.Signable.{Signable}
-
--- the test of a signed operand, by its sign
-pub minus-inside : (w : ℕ) (a : ℤ) → negative a ≡ true → leb (nat_abs a) (2 ^ (w - 1)) ≡ inside_signed w a
-minus-inside w (pos n) e = absurd (false≢true e)
-minus-inside w (negsuc n) e = refl
-
-pub plus-inside : (w : ℕ) (a : ℤ) → negative a ≡ false → leb (nat_abs a) (2 ^ (w - 1) - 1) ≡ inside_signed w a
-plus-inside w (pos n) e = refl
-plus-inside w (negsuc n) e = absurd (false≢true (sym e))
 
 -- every number below 2^64 is inside 64 bits and more
 below_power : (v a : ℕ) → 63 < v → a < 2 ^ 64 → a ≤ 2 ^ v - 1

@@ -10,11 +10,7 @@ use refusals::Refusal;
 // What is accepted: a shift of at most 40, and sizes of at most 2^53.
 const LARGEST_SHIFT: u32 = 40;
 
-const LOWEST_SCORE: i64 = -(1 << 53);
-
-const HIGHEST_SCORE: i64 = 1 << 53;
-
-const LARGEST_SUM: u64 = 1 << 53;
+const LARGEST_SIZE: u64 = 1 << 53;
 
 // The score and T, each divided by 2^shift. `magnitude_sum` is the scope's T.
 #[derive(Clone, Copy)]
@@ -32,14 +28,7 @@ pub fn scale(score: i64, magnitude_sum: u64, shift: u32) -> Result<Quotients, Re
     if shift > LARGEST_SHIFT {
         return Err(Refusal::ShiftTooLarge);
     }
-    // two tests, since the lowest i64 has a size that no i64 holds
-    if score < LOWEST_SCORE {
-        return Err(Refusal::SizeTooLarge);
-    }
-    if score > HIGHEST_SCORE {
-        return Err(Refusal::SizeTooLarge);
-    }
-    if magnitude_sum > LARGEST_SUM {
+    if score.unsigned_abs() > LARGEST_SIZE || magnitude_sum > LARGEST_SIZE {
         return Err(Refusal::SizeTooLarge);
     }
     let power = (1u64 << shift) as f64;

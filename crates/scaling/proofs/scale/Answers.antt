@@ -8,37 +8,23 @@ use Rattle.designs.proofs.Parts.{one_shifted}
 use Rattle.scaling.proofs.Division.{division}
 use Rattle.scaling.proofs.ScaledOutcome.{by-shift, by-score, by-sum, by_values}
 use Rattle.scaling.proofs.Quotient.{quotient-exact}
-use Rattle.scaling.proofs.SizeTests.{under, over, within, cast-exact}
+use Rattle.scaling.proofs.CastExact.{cast-exact}
 use Rattle.scaling.proofs.scale.Goals as goal
-use Rattle.scaling.proofs.scale.Goals.{Else-score-gt-HIGHEST_SCORE}
+use Rattle.scaling.proofs.scale.Goals.{After-unsigned_abs}
 
--- what the tests of the score leave
-score-small : (c : Else-score-gt-HIGHEST_SCORE) → nat_abs c.args.score ≤ 2 ^ 53
-score-small c =
-    let fits = c.ranges.score in
-    ⊎_elim (λ h. omega arith) (λ h. omega arith)
-    (within c.args.score (simp to_z-of_z at c.if-score-lt-LOWEST_SCORE.false) (simp to_z-of_z at c.if-score-gt-HIGHEST_SCORE.false))
+-- the size that is tested
+size-is : (c : After-unsigned_abs) → c.unsigned_abs.result ≡ nat_abs c.args.score
+size-is c = let fits = c.ranges.score in simp to_z-of_z at c.unsigned_abs.ensures.value
 
 pub returns-then-shift-gt-LARGEST_SHIFT-clause-outcome : goal.returns-then-shift-gt-LARGEST_SHIFT-clause-outcome
 returns-then-shift-gt-LARGEST_SHIFT-clause-outcome c = by-shift c.args.score c.args.magnitude_sum c.args.shift c.if-shift-gt-LARGEST_SHIFT.true
 
-pub returns-then-score-lt-LOWEST_SCORE-clause-outcome : goal.returns-then-score-lt-LOWEST_SCORE-clause-outcome
-returns-then-score-lt-LOWEST_SCORE-clause-outcome c =
-    let fits = c.ranges.score in
-    by-score c.args.score c.args.magnitude_sum c.args.shift c.if-shift-gt-LARGEST_SHIFT.false
-    (under c.args.score (simp to_z-of_z at c.if-score-lt-LOWEST_SCORE.true))
-
-pub returns-then-score-gt-HIGHEST_SCORE-clause-outcome : goal.returns-then-score-gt-HIGHEST_SCORE-clause-outcome
-returns-then-score-gt-HIGHEST_SCORE-clause-outcome c =
-    let fits = c.ranges.score in
-    by-score c.args.score c.args.magnitude_sum c.args.shift c.if-shift-gt-LARGEST_SHIFT.false
-    (over c.args.score (simp to_z-of_z at c.if-score-gt-HIGHEST_SCORE.true))
-
-pub returns-then-magnitude_sum-gt-LARGEST_SUM-clause-outcome : goal.returns-then-magnitude_sum-gt-LARGEST_SUM-clause-outcome
-returns-then-magnitude_sum-gt-LARGEST_SUM-clause-outcome c =
-    by-sum c.args.score c.args.magnitude_sum c.args.shift c.if-shift-gt-LARGEST_SHIFT.false
-    (score-small (goal.at.returns-then-magnitude_sum-gt-LARGEST_SUM-clause-outcome c).Else-score-gt-HIGHEST_SCORE)
-    c.if-magnitude_sum-gt-LARGEST_SUM.true
+pub returns-then-unsigned_abs-gt-LARGEST_SIZE-clause-outcome : goal.returns-then-unsigned_abs-gt-LARGEST_SIZE-clause-outcome
+returns-then-unsigned_abs-gt-LARGEST_SIZE-clause-outcome c =
+    let size = size-is (goal.at.returns-then-unsigned_abs-gt-LARGEST_SIZE-clause-outcome c).After-unsigned_abs in
+    let shift = c.if-shift-gt-LARGEST_SHIFT.false in
+    ⊎_elim (λ h. by-score c.args.score c.args.magnitude_sum c.args.shift shift (omega (arith, size)))
+    (λ h. by-sum c.args.score c.args.magnitude_sum c.args.shift shift (omega (arith, size)) h.1) c.then-unsigned_abs-gt-LARGEST_SIZE.either
 
 -- `1 << shift`
 power-is : (k : ℕ) → k ≤ 40 → (1 * 2 ^ k) % 2 ^ 64 ≡ 2 ^ k
@@ -56,8 +42,9 @@ returns c =
     let k = c.args.shift in
     let fits = c.ranges.score in
     let s = c.if-shift-gt-LARGEST_SHIFT.false in
-    let h = score-small (goal.at.returns c).Else-score-gt-HIGHEST_SCORE in
-    let g = c.if-magnitude_sum-gt-LARGEST_SUM.false in
+    let size = size-is (goal.at.returns c).After-unsigned_abs in
+    let h : nat_abs z ≤ 2 ^ 53 = omega arith in
+    let g = c.if-magnitude_sum-gt-LARGEST_SIZE.false in
     let room : k ≤ 53 = omega arith in
     simp (to_z-of_z, power-is k s, division z k h room, division (pos t) k g room)
     (record {

@@ -3,5 +3,5 @@ use Rattle.products.proofs.InsideWidth.{unsigned-wide}
 use Rattle.std.proofs.Common.{arith}
 use Rattle.products.proofs.operands.inside_unsigned.Goals as goal
 
-pub returns-then-width-gt63 : goal.returns-then-width-gt63
-returns-then-width-gt63 c = unsigned-wide c.args.width c.args.a c.if-width-gt63.true (omega arith)
+pub returns-in-None : goal.returns-in-None
+returns-in-None c = unsigned-wide c.args.width c.args.a (omega (arith, c.in-None.ensures)) (omega arith)
