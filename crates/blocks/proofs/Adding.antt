@@ -42,9 +42,9 @@ unfolding count
 halves f zero = refl
 halves f (suc n) = omega (arith, halves f n)
 
-pub none-added : (z w x : ℕ → ℤ) → Adds z w x 0 no_sums
+pub none-added : (z w x : ℕ → ℤ) {s : BlockSums} → s ≡ no_sums → Adds z w x 0 s
 unfolding sums_of count greatest
-none-added z w x = record { is = refl; fits = λ k h. absurd (omega arith) }
+none-added z w x e = record { is = e; fits = λ k h. absurd (omega arith) }
 
 module _ {z w x : ℕ → ℤ} {n : ℕ} {s : BlockSums} (sums : Adds z w x n s) where
   next-added : SFits w16 (w n) → SFits w16 (x n) → Adds z w x (n + 1) (with_pair s (w n) (x n) (z n))

@@ -44,7 +44,7 @@ module _ {D : Design} {w x r : ℤ} (pair : Read D w x r) where
 
 module _ {D : Design} {ws fs before : List ℤ} {n : ℕ} where
   pub begun : {s : BlockSums} → s ≡ no_sums → SoFar D ws fs before before n 0 s
-  begun e = record { inside = omega arith; residues = none_done _ before; adds = rw e (none-added _ _ _) }
+  begun e = record { inside = omega arith; residues = none_done _ before; adds = none-added _ _ _ e }
 
   module _ {after : List ℤ} {j : ℕ} {s : BlockSums} {r : ℤ} (so_far : SoFar D ws fs before after n j s) (pair : Read D (place ws j) (place fs j) r) where
     pub ready : KeepsBit D → n ≤ 64 → Roomy s × (nat_abs (to_z w32 (of_z w32 r)) < 2 ^ 31)

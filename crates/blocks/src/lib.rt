@@ -15,7 +15,7 @@ ghost use Rattle.blocks.specs.declared.sums.BlockSums.{BlockSums};
 
 mod sums;
 
-use crate::sums::{added, no_sums, with_pair};
+use crate::sums::{added, with_pair};
 use patterns::methods::{Mitchell, Multiplier, Nearest, Staged, Truncated, TwiceTruncated};
 pub use sums::BlockSums;
 
@@ -113,7 +113,7 @@ fn together<D: Multiplier>(
     ensures { Taken (D.design d) weights.now frame.now block.old block.new result }
 {
     let n = pairs::taken(weights.len(), frame.len(), BLOCK);
-    let mut sums = no_sums();
+    let mut sums = BlockSums::default();
     for j in 0..n {
         let w = weights[j];
         let x = frame[j];

@@ -6,8 +6,10 @@ ghost use Rattle.blocks.specs.Sums.{Adds, Held, no_sums, Roomy, taken, with_pair
 use crate::BLOCK;
 
 // The sizes of the true products, and of these those of the products below 0 once more, each sum as high × 2^16 + low; how many pairs hold a
-// zero, since adding up a comparison with 0 takes an instruction less than adding up its opposite; and the largest size of a residue.
-#[derive(Clone, Copy)]
+// zero, since adding up a comparison with 0 takes an instruction less than adding up its opposite; and the
+// largest size of a residue, as a number with a sign: of such numbers the compiler finds the larger of four at a time. By default those of no
+// pairs.
+#[derive(Clone, Copy, Default)]
 pub struct BlockSums {
     pub sizes_high: u32,
     pub sizes_low: u32,
@@ -15,41 +17,6 @@ pub struct BlockSums {
     pub minus_low: u32,
     pub zero_pairs: u32,
     pub largest: i32,
-}
-
-// The sums of no pairs.
-pub(crate) fn no_sums() -> BlockSums
-    ensures { result ≡ no_sums }
-{
-    BlockSums {
-        sizes_high: 0,
-        sizes_low: 0,
-        minus_high: 0,
-        minus_low: 0,
-        zero_pairs: 0,
-        largest: 0,
-    }
-}
-
-// The size of a residue, as a number with a sign: of such numbers the compiler finds the larger of four at a time.
-fn size_of(residue: i32) -> i32
-    requires { nat_abs residue < 2 ^ 31 }
-    ensures { result ≡ pos (nat_abs residue) }
-{
-    if residue < 0 {
-        return 0 - residue;
-    }
-    residue
-}
-
-// The larger of two sizes.
-fn larger(a: i32, b: i32) -> i32
-    ensures { (m n : ℕ) → a ≡ pos m → b ≡ pos n → result ≡ pos (max m n) }
-{
-    if a < b {
-        return b;
-    }
-    a
 }
 
 // The sums with one pair more.
@@ -65,7 +32,7 @@ pub(crate) fn with_pair(sums: BlockSums, w: i16, x: i16, residue: i32) -> BlockS
         minus_high: sums.minus_high + minus / 65536,
         minus_low: sums.minus_low + minus % 65536,
         zero_pairs: sums.zero_pairs + pairs::holds_zero(w, x),
-        largest: larger(sums.largest, size_of(residue)),
+        largest: sums.largest.max(residue.abs()),
     }
 }
 
@@ -75,7 +42,7 @@ pub(crate) fn added(weights: &[i16], frame: &[i16], block: &[i32]) -> BlockSums
     ensures { Adds (place block.now) (place weights.now) (place frame.now) (taken weights.now frame.now) result }
 {
     let n = pairs::taken(weights.len(), frame.len(), BLOCK);
-    let mut sums = no_sums();
+    let mut sums = BlockSums::default();
     for j in 0..n {
         sums = with_pair(sums, weights[j], frame[j], block[j]);
     }

@@ -4,7 +4,7 @@ ghost use Rattle.std.specs.Prelude.{◌≤◌, length};
 ghost use Rattle.rows.specs.Answers.{Ready};
 ghost use Rattle.rows.specs.Totals.{Going};
 
-use crate::sums::{Sums, add, no_sums};
+use crate::sums::{Sums, add};
 use blocks::{BLOCK, ByBlocks};
 
 // What a place of a block holds before it is filled. The bytes of this number differ: equal ones, as those of 0 are, the compiler would set
@@ -22,7 +22,7 @@ pub(crate) fn by_blocks<const N: usize, D: ByBlocks<N>>(
     requires { Ready (D.design d) weights.now frame.now residues.old × (to ≤ length weights.now) }
     ensures { Going (D.design d) weights.now frame.now residues.old residues.new to result }
 {
-    let mut sums = no_sums();
+    let mut sums = Sums::default();
     if to == 0 {
         return sums;
     }

@@ -1,32 +1,19 @@
 // The sums of a row, whatever its design: what a pair adds to them, and what a block of pairs does.
 ghost use Rattle.std.specs.Prelude.{◌≡◌, ℕ, ◌+◌, ◌*◌, ◌^◌, ◌≤◌, ◌<◌, List, ℤ, nat_abs};
 ghost use Rattle.rows.specs.Answers.{report_of};
-ghost use Rattle.rows.specs.Totals.{Addable, no_sums, Reached, report_by, Roomy, Turnable, with_all, with_pair, Writable, Written};
+ghost use Rattle.rows.specs.Totals.{Addable, Reached, report_by, Roomy, Turnable, with_all, with_pair, Writable, Written};
 
 use crate::worst::Worst;
 use crate::{RowReport, worst};
 
-// The sums of some pairs, and the worst of them. Counted are those that hold a zero, as in a block.
-#[derive(Clone, Copy)]
+// The sums of some pairs, and the worst of them. Counted are those that hold a zero, as in a block. By default those of no pairs.
+#[derive(Clone, Copy, Default)]
 pub(crate) struct Sums {
-    true_sum: i64,
-    error: i64,
-    magnitude_sum: u64,
-    zero_pairs: u32,
-    worst: Worst,
-}
-
-// The sums of no pairs.
-pub(crate) fn no_sums() -> Sums
-    ensures { result ≡ no_sums }
-{
-    Sums {
-        true_sum: 0,
-        error: 0,
-        magnitude_sum: 0,
-        zero_pairs: 0,
-        worst: Worst { size: 0, place: 0 },
-    }
+    pub(crate) true_sum: i64,
+    pub(crate) error: i64,
+    pub(crate) magnitude_sum: u64,
+    pub(crate) zero_pairs: u32,
+    pub(crate) worst: Worst,
 }
 
 // The sums with pair `at`, the next one.

@@ -1,9 +1,9 @@
 // The worst of the first pairs of a row: the largest size of their residues, and the first place that has it. Few pairs carry it from one to
 // the next. A block looks for a place only where its largest residue is larger than all before it, which in a long row is seldom so.
-ghost use Rattle.std.specs.Prelude.{◌≡◌, cond, ℕ, min, ◌+◌, ◌^◌, ◌≤◌, ◌<◌, eqb, ℤ, nat_abs, length};
+ghost use Rattle.std.specs.Prelude.{◌≡◌, cond, ℕ, ◌+◌, ◌^◌, ◌≤◌, ◌<◌, eqb, ℤ, nat_abs, length};
 ghost use Rattle.rows.specs.Worst.{Comparable, First, WorstOf, with_residue};
 
-#[derive(Clone, Copy)]
+#[derive(Clone, Copy, Default)]
 pub(crate) struct Worst {
     pub(crate) size: u64,
     pub(crate) place: usize,
@@ -49,7 +49,7 @@ fn first_of(size: i32, block: &[i32]) -> usize
 {
     let mut first = 64;
     for (j, number) in block.iter().enumerate() {
-        first = earlier(first, place_of(size, *number, j));
+        first = first.min(place_of(size, *number, j));
     }
     first as usize
 }
@@ -63,13 +63,4 @@ fn place_of(size: i32, number: i32, j: usize) -> u8
         return j as u8;
     }
     64
-}
-
-fn earlier(a: u8, b: u8) -> u8
-    ensures { result ≡ min a b }
-{
-    if a < b {
-        return a;
-    }
-    b
 }

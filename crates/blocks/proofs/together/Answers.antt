@@ -1,10 +1,11 @@
 -- A turn puts the residue of the next pair to its place and into the sums, in which 64 pairs leave room.
-use Rattle.std.proofs.Common.{rules, arith}
+use Rattle.std.proofs.Common.{rules, ◌≡◌, arith}
+use Rattle.blocks.specs.Sums.{no_sums}
 use Rattle.blocks.proofs.Taking.{begun, next, ready, taken-all}
 use Rattle.blocks.proofs.together.Goals as goal
 
 pub loop-j-init : goal.loop-j-init
-loop-j-init g c = begun c.no_sums-sums.ensures
+loop-j-init g c = begun (search rules)
 
 pub with_pair-sums-requires : goal.with_pair-sums-requires
 with_pair-sums-requires g c =

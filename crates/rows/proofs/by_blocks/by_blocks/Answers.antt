@@ -1,15 +1,15 @@
 -- Each turn takes a block, and `add` takes what was reached as far as the block goes.
-use Rattle.std.proofs.Common.{◌*◌, ◌^◌, ◌<◌, arith}
+use Rattle.std.proofs.Common.{rules, ◌*◌, ◌^◌, ◌<◌, arith}
 use Rattle.std.proofs.lemmas.List.{length-replicate}
 use Rattle.rows.proofs.ByBlocks.{begun, ended, filled, none, on}
 use Rattle.rows.proofs.by_blocks.by_blocks.Goals as goal
 use Rattle.rows.proofs.by_blocks.by_blocks.Goals.{After-add-sums}
 
 pub returns-then-to-eq0 : goal.returns-then-to-eq0
-returns-then-to-eq0 g c = none c.if-to-eq0.true c.no_sums-sums.ensures
+returns-then-to-eq0 g c = none c.if-to-eq0.true (search rules)
 
 pub loop-at-init : goal.loop-at-init
-loop-at-init g c = begun c.requires c.no_sums-sums.ensures (length-replicate _ _)
+loop-at-init g c = begun c.requires (search rules) (length-replicate _ _)
 
 pub fill-all-requires : goal.fill-all-requires
 fill-all-requires g c = let small : g.row.N * 4 < 2 ^ 63 = omega (arith, g.met.D.ByBlocks.room.1) in small

@@ -15,7 +15,8 @@ loop-j-preserved c =
     let fits : SFits w32 (place block j) = search rules in
     let here : c.place_of.result ≡ cond (eqb (nat_abs (place block j)) (nat_abs size)) j 64 =
     c.place_of.ensures ∙ ap (λ (z : ℤ). cond (eqb (nat_abs z) (nat_abs size)) j 64) (to_z-of_z fits) in
-    rw (c.earlier-first.ensures ∙ ap (min c.loop-j.first) here) (next c.loop-j.invariant (omega arith))
+    let least : c.min-first.result ≡ min c.loop-j.first c.place_of.result = search rules in
+    rw (least ∙ ap (min c.loop-j.first) here) (next c.loop-j.invariant (omega arith))
 
 pub returns : goal.returns
 returns c =
