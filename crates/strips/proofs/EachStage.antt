@@ -1,22 +1,18 @@
 -- Design 3 over a strip, stage by stage. One stage more takes the leading power off what is left of each number, and adds the product of what
 -- was left of both numbers of a pair to the products so far.
-use Rattle.std.proofs.Common.{◌≡◌, ℕ, suc, ◌+◌, ◌-◌, ◌*◌, ◌^◌, ◌<◌, ◌≤◌, min, List, length, get_or, take, set, ℤ, pos, ◌+ℤ◌, nat_abs, sym, refl, ap, ◌∙◌, ap₂, add-one, arith, length-set, length-take, get_or-set_other, get_or-take, get_or-set_same, to_z-of_z, w16, w32, SFits, to_z, of_z}
+use Rattle.std.proofs.Common.{◌≡◌, ℕ, suc, ◌+◌, ◌-◌, ◌*◌, ◌^◌, ◌<◌, ◌≤◌, List, length, get_or, take, set, ℤ, pos, ◌+ℤ◌, nat_abs, sym, refl, ap, ◌∙◌, ap₂, add-one, arith, length-set, length-take, get_or-set_other, get_or-take, get_or-set_same, to_z-of_z, w16, w32, SFits, to_z, of_z}
 use borrow.Rule.Slice.PartMut.{put_mid}
-use lib.Ieee.{unlike}
 use lib.Signed.{mag, nat_abs-le}
-use Rattle.designs.specs.Designs.{product, staged}
-use Rattle.designs.specs.Signs.{left_ℤ, negative, rest_ℤ, signed_product}
+use Rattle.designs.specs.Designs.{staged}
+use Rattle.designs.specs.Signs.{left_ℤ, rest_ℤ, signed_product}
 use Rattle.designs.proofs.Cases.{either_lt}
 use Rattle.designs.proofs.SignedLeft.{left-next, left-none, left-size, no-stage, staged-then}
-use Rattle.designs.proofs.Sizes.{size-sign}
 use Rattle.patterns.specs.Blocks.{Done, place}
 use Rattle.patterns.specs.Patterns.{raised_of}
-use Rattle.patterns.proofs.Pair.{product-fits, product-size}
+use Rattle.patterns.proofs.Pair.{product-fits}
 use Rattle.blocks.specs.Counts.{total}
-use Rattle.blocks.specs.Residues.{of_pair}
-use Rattle.blocks.proofs.Counts.{total_size}
 use Rattle.strips.specs.Codes.{code_of, StageCoded, StageLogs}
-use Rattle.strips.specs.Stages.{Codes, Left, Multiplied, pairs_of}
+use Rattle.strips.specs.Stages.{Codes, Left, Multiplied, Multiplying, pairs_of}
 use Rattle.strips.specs.Strips.{Summed}
 use Rattle.strips.proofs.EachRow.{total-as}
 use Rattle.strips.proofs.EachStrip.{holds}
@@ -117,6 +113,11 @@ module _ {i : ℕ} {row part : List ℤ} {left held : List ℕ} (coded : StageCo
   pub more-fits : SFits w32 (signed_product (staged (suc i)) w x)
   more-fits = product-fits (staged (suc i)) tt w x (walked.small j h) (coded.small j in-part)
 
+-- the places after some pairs of a stage
+pub record Stepping (i : ℕ) (row part : List ℤ) (left-before : List ℕ) (found-before : List ℤ) (left : List ℕ) (found : List ℤ) (j : ℕ) : Type 0 where
+  pub patterns : Filled (λ k. raised_of (rest_ℤ (left_ℤ i (place row k)))) j left-before left
+  pub products : Done (λ k. signed_product (staged (suc i)) (place row k) (place part k)) j found-before found
+
 pub stage-more : (i : ℕ) (w x : ℤ) {before stage : ℤ} → before ≡ signed_product (staged i) w x → stage ≡ signed_product (staged 1) (left_ℤ i w) (left_ℤ i x)
     → before +ℤ stage ≡ signed_product (staged (suc i)) w x
 stage-more i w x eb es = ap₂ ◌+ℤ◌ eb es ∙ sym (staged-then i w x)
@@ -157,22 +158,25 @@ module _ {part : List ℤ} where
 pub fewer-runs : {m n : ℕ} {part : List ℤ} {held : List ℕ} → m ≤ n → StageCoded n part held → StageCoded m part held
 fewer-runs h coded = record { few = coded.few; small = coded.small; at = λ i l k g. coded.at i (omega arith) k g }
 
--- a product of 16-bit numbers
-pub staged-small : (s : ℕ) (w x : ℤ) → nat_abs w ≤ 2 ^ 15 → nat_abs x ≤ 2 ^ 15 → nat_abs (signed_product (staged s) w x) ≤ 2 ^ 33
-unfolding signed_product
-staged-small s w x hw hx =
-    omega (arith, size-sign (unlike (negative w) (negative x)) (product (staged s) (nat_abs w) (nat_abs x)), product-size (staged s) tt w x hw hx)
+-- what stage i of s stages takes
+pub stage-taken : {i s t n : ℕ} {row part : List ℤ} {held left : List ℕ} {found : List ℤ} → i < s → s ≤ 16 → s ≡ t → StageCoded (t + 1) part held → n ≡ pairs_of row part → length left ≡ n
+    → Left i (pairs_of row part) row left → Multiplied i row part found → Multiplying i row part held left found
+stage-taken h most e coded en size walked done =
+    record { few = omega arith; coded = fewer-runs (omega arith) coded; size = size ∙ en; walked = walked; found = done }
+
+-- the patterns of a row's first weights
+pub taken-left : {n : ℕ} (row : List ℤ) {left : List ℕ} → n ≤ length row → Left 0 (length (take n row)) (take n row) left → Left 0 n row left
+taken-left {n} row inside walked =
+    let size : length (take n row) ≡ n = omega (arith, length-take n row, inside) in
+    record {
+      room = omega (arith, walked.room, size);
+      small = λ k h. rw (sym (get_or-take n row k (pos 0) h)) (walked.small k (omega (arith, size)));
+      at = λ k h. walked.at k (omega (arith, size)) ∙ ap (λ (z : ℤ). raised_of (left_ℤ 0 z)) (get_or-take n row k (pos 0) h);
+    }
 
 -- the sum of all products
-pub summed-stages : {s n : ℕ} {row part found : List ℤ} {r : ℤ} → Multiplied s row part found → 1 ≤ s → n ≡ pairs_of row part → ((k : ℕ) → k < n → nat_abs (place row k) ≤ 2 ^ 15)
-    → ((k : ℕ) → k < length part → nat_abs (place part k) ≤ 2 ^ 15) → length part ≤ 64 → r ≡ total (place (take n found)) (min (length (take n found)) 64) → Summed (staged s) row part r
-summed-stages {s} {n} {row} {part} {found} done some e sized small few er =
-    summed-pairs (staged s) row part e
-    (er ∙ ap (total (place (take n found))) (omega (arith, length-take n found, done.size, e, few)) ∙ total-as n places)
-    (total_size (of_pair (signed_product (staged s)) row part) (2 ^ 33) n (λ k h. bound k h))
-  where
-    places : (k : ℕ) → k < n → place (take n found) k ≡ of_pair (signed_product (staged s)) row part k
-    places k h = get_or-take n found k (pos 0) h ∙ sym (holds s (place found k) (omega arith)) ∙ done.at k (omega (arith, e))
-
-    bound : (k : ℕ) → k < n → nat_abs (of_pair (signed_product (staged s)) row part k) ≤ 2 ^ 33
-    bound k h = staged-small s (place row k) (place part k) (sized k h) (small k (omega (arith, e)))
+pub summed-stages : {s n : ℕ} {row part found : List ℤ} {r : ℤ} → Multiplied s row part found → 1 ≤ s → n ≡ pairs_of row part → r ≡ total (place found) n
+    → nat_abs (total (place found) n) ≤ n * 2 ^ 33 → Summed (staged s) row part r
+summed-stages {s} {n} {row} {part} {found} done some e er small =
+    let all = total-as n (λ k h. sym (holds s (place found k) (omega arith)) ∙ done.at k (omega (arith, e))) in
+    summed-pairs (staged s) row part e (er ∙ all) (rw all at small)

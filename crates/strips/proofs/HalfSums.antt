@@ -1,6 +1,6 @@
 -- A sum in two halves: a number is 2^16 times its high half and its low one, and both kinds are added up apart. Where the pairs end before
 -- the frame's part, the weights that are missing count as 0, and so do their products.
-use Rattle.std.proofs.Common.{◌≡◌, ℕ, zero, suc, ◌+◌, ◌-◌, ◌*◌, ◌/◌, ◌%◌, ◌^◌, ◌<◌, ◌≤◌, min, Bool, true, false, List, length, ℤ, pos, negsuc, ◌+ℤ◌, ◌*ℤ◌, nat_abs, sym, refl, ap, ◌∙◌, subst, ap₂, add-zero, add-suc, le_antisymm, arith, to_z-of_z, w32, to_z, of_z}
+use Rattle.std.proofs.Common.{◌≡◌, ℕ, zero, suc, ◌+◌, ◌-◌, ◌*◌, ◌/◌, ◌%◌, ◌^◌, ◌<◌, ◌≤◌, min, Bool, true, false, List, length, ℤ, pos, negsuc, ◌+ℤ◌, ◌*ℤ◌, nat_abs, sym, refl, ap, ◌∙◌, subst, ap₂, add-zero, add-suc, arith, to_z-of_z, w32, to_z, of_z}
 use lib.Ieee.{unlike}
 use lib.IntN.{+ℤ_idr}
 use lib.ListN.{get_or-eq_default}
@@ -77,29 +77,27 @@ unfolding total
 total-stops f n zero stop = ap (total f) (add-zero n)
 total-stops f n (suc m) stop = rw (add-suc n m) (ap₂ ◌+ℤ◌ (total-stops f n m stop) (stop (n + m) (omega arith)) ∙ +ℤ_idr (total f n))
 
--- a loop that adds up the first n numbers of f
-pub record Adding (f : ℕ → ℤ) (n j : ℕ) (h : Halves) : Type 0 where
-  pub inside : j ≤ n
-  pub held : Held h (total f j) j
+-- a loop that adds up numbers: those that came, and those of any f that is known to give them
+pub record Adding (given : (ℕ → ℤ) → Type 0) (j : ℕ) (h : Halves) : Type 0 where
+  pub some : (z : ℤ) × Held h z j
+  pub of : (f : ℕ → ℤ) → given f → Held h (total f j) j
 
-module _ {f : ℕ → ℤ} {n : ℕ} where
-  pub begun : {h : Halves} → h ≡ no_halves → Adding f n 0 h
+module _ {given : (ℕ → ℤ) → Type 0} where
+  pub begun : {h : Halves} → h ≡ no_halves → Adding given 0 h
   unfolding total
-  begun e = record { inside = omega arith; held = none-held e }
+  begun e = record { some = (_, none-held e); of = λ f is. none-held e }
 
   -- a number as a callee gives it
-  pub next : {h h' : Halves} {j : ℕ} (y : ℤ) → Adding f n j h → j < n → mag y < 2 ^ 31 → y ≡ f j → h' ≡ with_number h (to_z w32 (of_z w32 y)) → Adding f n (j + 1) h'
-  next {h} {h'} {j} y adding l small is e =
+  pub next : {h h' : Halves} {j : ℕ} {y : ℤ} → Adding given j h → mag y < 2 ^ 31 → h' ≡ with_number h (to_z w32 (of_z w32 y)) → ((f : ℕ → ℤ) → given f → y ≡ f j) → Adding given (j + 1) h'
+  next {h} {h'} {j} {y} adding small e is =
+      let read = e ∙ ap (with_number h) (to_z-of_z {w = w32} {z = y} (record { sfits = small })) in
       record {
-        inside = omega arith;
-        held =
-            rw (total-next f j)
-            (subst (λ (z : ℤ). Held h' (total f j +ℤ z) (j + 1)) is
-            (next-held y adding.held small (e ∙ ap (with_number h) (to_z-of_z {w = w32} {z = y} (record { sfits = small })))));
+        some = (_, next-held y adding.some.1 small read);
+        of = λ f gives. rw (total-next f j) (subst (λ (z : ℤ). Held h' (total f j +ℤ z) (j + 1)) (is f gives) (next-held y (adding.of f gives) small read));
       }
 
-  pub ended : {h : Halves} {j : ℕ} → Adding f n j h → n ≤ j → Held h (total f n) n
-  ended {h} {j} adding l = let all : j ≡ n = le_antisymm adding.inside l in rw all at adding.held
+  pub ended : {h : Halves} {j n : ℕ} {r : ℤ} → Adding given j h → j ≡ n → r ≡ joined_of h → (f : ℕ → ℤ) → given f → (r ≡ total f n) × (nat_abs (total f n) ≤ n * 2 ^ 33)
+  ended adding all er f gives = let held = rw all at (adding.of f gives) in (er ∙ held.is, joined-size held)
 
 -- a sum of the pairs that there are
 module _ (D : Design) (ws part : List ℤ) {n : ℕ} (e : n ≡ min (length ws) (length part)) where
@@ -115,6 +113,3 @@ module _ (D : Design) (ws part : List ℤ) {n : ℕ} (e : n ≡ min (length ws) 
 
   pub summed-pairs : {r : ℤ} → r ≡ total product n → nat_abs (total product n) ≤ n * 2 ^ 33 → Summed D ws part r
   summed-pairs er small = record { is = er ∙ sym (stops (length part - n) (omega arith)); small = rw er (omega (arith, small, e)) }
-
-  pub summed : {j : ℕ} {h : Halves} {r : ℤ} → Adding product n j h → n ≤ j → r ≡ joined_of h → Summed D ws part r
-  summed adding l er = let held = ended adding l in summed-pairs (er ∙ held.is) (joined-size held)

@@ -1,10 +1,10 @@
 -- What the stages of design 3 keep of the pairs of a row and a strip. Definitions only.
-use Rattle.std.specs.Prelude.{◌≡◌, ℕ, ◌^◌, ◌<◌, ◌≤◌, min, max, List, length, ℤ, slice_index, unsigned_abs}
+use Rattle.std.specs.Prelude.{◌≡◌, ℕ, ◌+◌, ◌^◌, ◌<◌, ◌≤◌, min, max, List, length, ℤ, slice_index, unsigned_abs}
 use Rattle.designs.specs.Designs.{staged}
 use Rattle.designs.specs.Signs.{left_ℤ, signed_product}
 use Rattle.patterns.specs.Blocks.{place}
 use Rattle.patterns.specs.Patterns.{raised_of}
-use Rattle.strips.specs.Codes.{code_of}
+use Rattle.strips.specs.Codes.{code_of, StageCoded}
 use Rattle.strips.specs.Strips.{started}
 
 -- The stages that are taken: at least 1 and at most 16. A number of stages outside acts as the nearest of these.
@@ -29,3 +29,11 @@ pub record Codes (i n : ℕ) (numbers : List ℤ) (codes : List ℕ) : Type 0 wh
 pub record Multiplied (i : ℕ) (ws part products : List ℤ) : Type 0 where
   pub size : length products ≡ 64
   pub at : (k : ℕ) → k < pairs_of ws part → started i (place products k) ≡ signed_product (staged i) (place ws k) (place part k)
+
+-- What stage i takes: the codes that it and the one after it need, and of each pair the pattern of what is left of its weight, and its product.
+pub record Multiplying (i : ℕ) (ws part : List ℤ) (held left : List ℕ) (products : List ℤ) : Type 0 where
+  pub few : i ≤ 15
+  pub coded : StageCoded (i + 2) part held
+  pub size : length left ≡ pairs_of ws part
+  pub walked : Left i (pairs_of ws part) ws left
+  pub found : Multiplied i ws part products

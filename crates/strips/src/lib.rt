@@ -1,14 +1,15 @@
-// Rows that are scored together against one frame, as a layer takes them in blocks. The frame goes in strips of 64 numbers: each number of a
-// strip is read once and made into codes, its logarithm among them, and then every row takes the strip. Nothing is multiplied. Any slices
-// are taken: the rows are as many as there are places for scores, each as long as the frame, and of the frame the first 4,096 numbers count.
+// Rows that are scored together against one frame, as a layer takes them in blocks. The frame goes in strips: each number of a strip is read
+// once and made into codes, its logarithm among them, and then every row takes the strip. Nothing is multiplied. Any slices are taken: the
+// rows are as many as there are places for scores, each as long as the frame, and of the frame the first 4,096 numbers count.
 #![tactic(auto)]
 
-ghost use Rattle.designs.specs.Designs.{mitchell, nearest, staged, truncated, twice_truncated};
-ghost use Rattle.patterns.specs.Patterns.{clamped};
-ghost use Rattle.strips.specs.Stages.{stages_of};
-ghost use Rattle.strips.specs.Strips.{Scored};
+ghost use Rattle.std.specs.Prelude.{◌≡◌, ℕ, ◌<◌, ◌≤◌, List, length, ℤ};
+ghost use Rattle.designs.specs.Designs.{Design};
+ghost use Rattle.strips.specs.Strips.{Scored, Summed};
 
+mod by_pairs;
 mod codes;
+mod count;
 mod products;
 mod rows;
 mod stages;
@@ -25,98 +26,50 @@ pub const MOST: usize = 4096;
 // by one call of memset more.
 pub(crate) const UNSET: u32 = 66051;
 
-// By design 1.
-pub fn mitchell(weights: &[i16], frame: &[i16], scores: &mut [i64])
-    ensures { Scored mitchell weights.now frame.now scores.old scores.new }
-{
-    let columns = frame.len();
-    let to = pairs::fewer(columns, MOST);
-    let mut held = [UNSET; STRIP];
-    let mut from = 0;
-    while from < to {
-        let end = ahead(from, STRIP, to);
-        let part = &frame[from..end];
-        codes::own(part, &mut held[..]);
-        rows::mitchell(columns, from, weights, part, &held, scores);
-        from = end;
-    }
+// A design with its setting, as it takes a strip of the frame.
+pub trait InStrips: Copy {
+    // What the numbers of a strip become.
+    type Codes: Drop;
+
+    // The most of them.
+    const NUMBERS: usize;
+
+    ghost NUMBERS: { ℕ };
+
+    ghost design: { Self → Design };
+
+    // these are the codes of a part of a frame
+    ghost coded: { Self → List ℤ → Self.Codes → Type 0 };
+
+    // Places for codes, before they are filled.
+    fn blank() -> Self::Codes;
+
+    fn code(self, part: &[i16], codes: &mut Self::Codes)
+        requires { length part.now ≤ NUMBERS }
+        ensures { coded self part.now codes.new };
+
+    // The sum of the products of a row and a part. The codes may have places to work in.
+    fn sum(self, row: &[i16], part: &[i16], codes: &mut Self::Codes) -> i64
+        requires { coded self part.now codes.old × (length part.now ≤ NUMBERS) }
+        ensures sum { Summed (design self) row.now part.now result }
+        ensures codes { coded self part.now codes.new };
+
+    ghost some: { 0 < NUMBERS };
+
+    ghost few: { NUMBERS ≤ 4096 };
 }
 
-// By design 2.
-pub fn nearest(weights: &[i16], frame: &[i16], scores: &mut [i64])
-    ensures { Scored nearest weights.now frame.now scores.old scores.new }
+// The scores of as many rows as there are places.
+pub fn score<S: InStrips>(design: S, weights: &[i16], frame: &[i16], scores: &mut [i64])
+    ensures { Scored (S.design design) weights.now frame.now scores.old scores.new }
 {
     let columns = frame.len();
-    let to = pairs::fewer(columns, MOST);
-    let mut powers = [UNSET; STRIP];
-    let mut offsets = [UNSET; STRIP];
+    let counted = &frame[..pairs::fewer(columns, MOST)];
+    let mut codes = S::blank();
     let mut from = 0;
-    while from < to {
-        let end = ahead(from, STRIP, to);
-        let part = &frame[from..end];
-        codes::powers(part, &mut powers[..]);
-        codes::offsets(part, &mut offsets[..]);
-        rows::nearest(columns, from, weights, part, &powers, &offsets, scores);
-        from = end;
-    }
-}
-
-// By design 3; fewer stages than 1 act as 1, and more than 16 as 16.
-pub fn staged(stages: u32, weights: &[i16], frame: &[i16], scores: &mut [i64])
-    ensures { Scored (staged (stages_of stages)) weights.now frame.now scores.old scores.new }
-{
-    let columns = frame.len();
-    let to = pairs::fewer(columns, MOST);
-    let taken = stages::taken(stages);
-    let mut held = [UNSET; stages::CODES];
-    let mut from = 0;
-    while from < to {
-        let end = ahead(from, STRIP, to);
-        let part = &frame[from..end];
-        stages::coded(taken, part, &mut held[..]);
-        rows::staged(taken, columns, from, weights, part, &held, scores);
-        from = end;
-    }
-}
-
-// By design 4, with the kept bits taken as `patterns` takes them.
-pub fn truncated(kept_bits: u32, weights: &[i16], frame: &[i16], scores: &mut [i64])
-    ensures { Scored (truncated (clamped kept_bits)) weights.now frame.now scores.old scores.new }
-{
-    let columns = frame.len();
-    let to = pairs::fewer(columns, MOST);
-    let mut held = [UNSET; STRIP];
-    let mut from = 0;
-    while from < to {
-        let end = ahead(from, STRIP, to);
-        let part = &frame[from..end];
-        codes::kept(kept_bits, part, &mut held[..]);
-        rows::truncated(kept_bits, columns, from, weights, part, &held, scores);
-        from = end;
-    }
-}
-
-// By design 5, with the kept bits as by design 4.
-pub fn twice_truncated(kept_bits: u32, weights: &[i16], frame: &[i16], scores: &mut [i64])
-    ensures { Scored (twice_truncated (clamped kept_bits)) weights.now frame.now scores.old scores.new }
-{
-    let columns = frame.len();
-    let to = pairs::fewer(columns, MOST);
-    let mut firsts = [UNSET; STRIP];
-    let mut rooms = [UNSET; STRIP];
-    let mut lows = [UNSET; STRIP];
-    let mut highs = [UNSET; STRIP];
-    let mut from = 0;
-    while from < to {
-        let end = ahead(from, STRIP, to);
-        let part = &frame[from..end];
-        codes::kept(kept_bits, part, &mut firsts[..]);
-        codes::rooms(kept_bits, part, &mut rooms[..]);
-        codes::left(true, part, &mut lows[..]);
-        codes::left(false, part, &mut highs[..]);
-        rows::twice_truncated(
-            kept_bits, columns, from, weights, part, &firsts, &rooms, &lows, &highs, scores,
-        );
-        from = end;
+    for part in counted.chunks(S::NUMBERS) {
+        design.code(part, &mut codes);
+        rows::take(design, columns, from, weights, part, &mut codes, scores);
+        from += part.len();
     }
 }

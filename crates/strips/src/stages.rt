@@ -1,85 +1,64 @@
 // Design 3 over a strip, one stage over all pairs before the next, so that a stage is vector code for any number of stages.
 ghost use Rattle.std.specs.Prelude.{◌≡◌, ℕ, ◌+◌, ◌≤◌, List, length, ℤ};
-ghost use Rattle.designs.specs.Designs.{staged};
+ghost use Rattle.std.proofs.Common.{rules};
+ghost use Rattle.designs.specs.Designs.{Design, staged};
 ghost use Rattle.strips.specs.Codes.{StageCoded};
-ghost use Rattle.strips.specs.Stages.{Codes, Left, Multiplied, pairs_of, stages_of};
-ghost use Rattle.strips.specs.Strips.{started, Summed};
+ghost use Rattle.strips.specs.Stages.{Codes, Left, Multiplied, Multiplying, pairs_of, stages_of};
+ghost use Rattle.strips.specs.Strips.{started};
 
-use crate::{STRIP, UNSET, codes, products, sums};
+use crate::count::{Stages, taken};
+use crate::{InStrips, STRIP, UNSET, codes, products, sums};
+use patterns::methods::Staged;
 
 // The places for the codes of a strip: of its numbers, and of what each of up to 16 stages leaves of them.
-pub(crate) const CODES: usize = 1088;
+const CODES: usize = 1088;
 
 // What a place for a product holds before the first stage. Its bytes differ, as those of `UNSET` do.
 const NO_PRODUCT: i32 = 66051;
 
-// At least one stage, and at most 16.
-pub(crate) fn taken(stages: u32) -> usize
-    ensures { result ≡ stages_of stages }
+// The raised patterns of numbers.
+fn raise(numbers: &[i16], left: &mut [u32])
+    requires { length numbers.now ≤ length left.old }
+    ensures { Left 0 (length numbers.now) numbers.now left.new }
 {
-    if stages < 1 {
-        return 1;
-    }
-    if 16 < stages {
-        return 16;
-    }
-    stages as usize
-}
-
-// The raised patterns of n numbers.
-fn raise(n: usize, numbers: &[i16], left: &mut [u32])
-    requires { (n ≤ length numbers.now) × (n ≤ length left.old) }
-    ensures { Left 0 n numbers.now left.new }
-{
-    let mut j = 0;
-    while j < n {
-        let x = numbers[j];
-        left[j] = patterns::raised(x);
-        j += 1;
+    for (j, x) in numbers.iter().enumerate() {
+        left[j] = patterns::raised(*x);
     }
 }
 
 // Those of what one stage more leaves of them.
-fn next(n: usize, left: &mut [u32])
-    requires { (i : ℕ) × (numbers : List ℤ) × Left i n numbers left.old }
-    ensures { (i : ℕ) (numbers : List ℤ) → Left i n numbers left.old → Left (i + 1) n numbers left.new }
+fn next(left: &mut [u32])
+    requires { (i : ℕ) × (numbers : List ℤ) × Left i (length left.old) numbers left.old }
+    ensures { (i : ℕ) (numbers : List ℤ) → Left i (length left.old) numbers left.old → Left (i + 1) (length left.old) numbers left.new }
 {
-    let mut j = 0;
-    while j < n {
-        let q = left[j];
-        left[j] = products::rest(q);
-        j += 1;
+    for p in left.iter_mut() {
+        *p = products::rest(*p);
     }
 }
 
 // The codes that go with them.
-fn codes_of(n: usize, left: &[u32], held: &mut [u32])
-    requires { (n ≤ length left.now) × (n ≤ length held.old) }
-    ensures { (i : ℕ) (numbers : List ℤ) → Left i n numbers left.now → Codes i n numbers held.new }
+fn codes_of(left: &[u32], held: &mut [u32])
+    requires { length left.now ≤ length held.old }
+    ensures { (i : ℕ) (numbers : List ℤ) → Left i (length left.now) numbers left.now → Codes i (length left.now) numbers held.new }
 {
-    let mut j = 0;
-    while j < n {
-        let p = left[j];
-        held[j] = codes::code(p);
-        j += 1;
+    for (j, p) in left.iter().enumerate() {
+        held[j] = codes::code(*p);
     }
 }
 
 // The codes of a part, and of what each of the stages leaves of it.
-pub(crate) fn coded(stages: usize, part: &[i16], held: &mut [u32])
-    requires { (length part.now ≤ 64) × (length held.old ≡ 1088) × (stages ≤ 16) }
-    ensures { StageCoded (stages + 1) part.now held.new }
+fn coded(stages: Stages, part: &[i16], held: &mut [u32])
+    requires { (length part.now ≤ 64) × (length held.old ≡ 1088) }
+    ensures { StageCoded (stages.count + 1) part.now held.new }
 {
     let n = part.len();
-    let mut left = [UNSET; STRIP];
-    raise(n, part, &mut left[..]);
-    let mut i = 0;
-    while i <= stages {
+    let mut places = [UNSET; STRIP];
+    let left = &mut places[..n];
+    raise(part, left);
+    for i in 0..stages.count + 1 {
         let at = i * STRIP;
-        let end = at + STRIP;
-        codes_of(n, &left[..], &mut held[at..end]);
-        next(n, &mut left[..]);
-        i += 1;
+        codes_of(left, &mut held[at..at + STRIP]);
+        next(left);
     }
 }
 
@@ -93,47 +72,61 @@ fn so_far(i: usize, product: i32) -> i32
     product
 }
 
-// Stage i, counted from 0, for each pair of a row and a part: its product is added, and what it leaves of the row takes the place of what the
-// stages before left.
-fn multiply(
-    i: usize,
-    row: &[i16],
-    part: &[i16],
-    held: &[u32; CODES],
-    left: &mut [u32],
-    found: &mut [i32],
-)
-    requires { StageCoded (i + 2) part.now held.now × (i ≤ 15) × Left i (pairs_of row.now part.now) row.now left.old × Multiplied i row.now part.now found.old }
-    ensures { Left (i + 1) (pairs_of row.now part.now) row.now left.new × Multiplied (i + 1) row.now part.now found.new }
+// Stage i, counted from 0, for each pair: its product is added, and what it leaves of the row takes the place of what the stages before left.
+fn multiply(i: usize, held: &[u32; CODES], left: &mut [u32], found: &mut [i32])
+    requires { (row : List ℤ) × (part : List ℤ) × Multiplying i row part held.now left.old found.old }
+    ensures { (row part : List ℤ) → Multiplying i row part held.now left.old found.old → Left (i + 1) (pairs_of row part) row left.new × Multiplied (i + 1) row part found.new }
 {
-    let n = pairs::fewer(row.len(), part.len());
     let at = i * STRIP;
     let after = at + STRIP;
-    let mut j = 0;
-    while j < n {
-        let p = left[j];
-        let q = held[at + j];
-        let r = held[after + j];
+    for (j, p) in left.iter_mut().enumerate() {
         let before = so_far(i, found[j]);
-        found[j] = before + products::stage(p, q, r);
-        left[j] = products::rest(p);
-        j += 1;
+        found[j] = before + products::stage(*p, held[at + j], held[after + j]);
+        *p = products::rest(*p);
     }
 }
 
-// The sum of the products of a row and a part.
-pub(crate) fn sum(stages: usize, row: &[i16], part: &[i16], held: &[u32; CODES]) -> i64
-    requires { StageCoded (stages + 1) part.now held.now × (1 ≤ stages) × (stages ≤ 16) }
-    ensures { Summed (staged stages) row.now part.now result }
-{
-    let n = pairs::fewer(row.len(), part.len());
-    let mut left = [UNSET; STRIP];
-    let mut found = [NO_PRODUCT; STRIP];
-    raise(n, row, &mut left[..]);
-    let mut i = 0;
-    while i < stages {
-        multiply(i, row, part, held, &mut left[..], &mut found[..]);
-        i += 1;
+// Codes for each stage.
+#[derive(Clone, Copy)]
+pub struct StageCodes {
+    pub held: [u32; CODES],
+}
+
+impl InStrips for Staged {
+    type Codes = StageCodes;
+
+    const NUMBERS: usize = STRIP;
+
+    ghost NUMBERS = { 64 };
+
+    ghost design = { λ d. staged (stages_of d.stages) };
+
+    ghost coded = { λ d part c. StageCoded (stages_of d.stages + 1) part c.held };
+
+    ghost some = { Prim.search rules };
+
+    ghost few = { Prim.search rules };
+
+    fn blank() -> StageCodes {
+        StageCodes {
+            held: [UNSET; CODES],
+        }
     }
-    sums::sum(&found[..n])
+
+    fn code(self, part: &[i16], codes: &mut StageCodes) {
+        coded(taken(self.stages), part, &mut codes.held[..]);
+    }
+
+    fn sum(self, row: &[i16], part: &[i16], codes: &mut StageCodes) -> i64 {
+        let stages = taken(self.stages);
+        let n = pairs::fewer(row.len(), part.len());
+        let mut places = [UNSET; STRIP];
+        let mut found = [NO_PRODUCT; STRIP];
+        let left = &mut places[..n];
+        raise(&row[..n], left);
+        for i in 0..stages.count {
+            multiply(i, &codes.held, left, &mut found[..]);
+        }
+        sums::sum(n, |j| found[j])
+    }
 }

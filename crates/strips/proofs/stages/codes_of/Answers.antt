@@ -6,7 +6,7 @@ use Rattle.strips.proofs.stages.codes_of.Goals as goal
 
 pub loop-j-preserved : goal.loop-j-preserved
 loop-j-preserved c i numbers l =
-    next-filled (c.loop-j.invariant i numbers l) (omega (arith, c.loop-j-test.true, c.requires.1))
+    next-filled (c.loop-j.invariant i numbers l) (omega (arith, c.loop-j-test.true, c.requires))
     (c.code.ensures (code 23) _ (l.at c.loop-j.j c.loop-j-test.true))
 
 pub returns : goal.returns

@@ -7,7 +7,7 @@ use Rattle.strips.proofs.stages.raise.Goals as goal
 pub loop-j-preserved : goal.loop-j-preserved
 loop-j-preserved c =
     let fits : SFits w16 (place c.args.numbers.now c.loop-j.j) = search rules in
-    next-raised c.loop-j.invariant c.loop-j-test.true c.requires.1 fits.sfits c.raised.ensures
+    next-raised c.loop-j.invariant c.loop-j-test.true c.requires fits.sfits c.raised.ensures
 
 pub returns : goal.returns
-returns c = all-raised c.loop-j.invariant c.loop-j-test.false c.requires.1
+returns c = all-raised c.loop-j.invariant c.loop-j-test.false c.requires
