@@ -5,6 +5,7 @@ ghost use Rattle.patterns.specs.Blocks.{place};
 ghost use Rattle.many_stages.specs.Powers.{next_power};
 ghost use Rattle.many_stages.specs.Strips.{Coded, excess_of, Filled, Patterned, Powered, Short, Stepping};
 
+use crate::count::Stages;
 use crate::{STRIP, left, powers};
 
 // Where the codes of the low bytes begin, and those of what the stages leave.
@@ -70,9 +71,9 @@ fn spread(m: usize, n: usize, at: usize, left: &mut [u32], held: &mut [u32])
 }
 
 // What the offsets of n weights add to their sum with the numbers of a part. The patterns of what the stages leave of the numbers stay.
-pub(crate) fn excess(stages: usize, n: usize, part: &[i16], left: &mut [u32]) -> i64
-    requires { (n ≤ length part.now) × (n ≤ 128) × (n ≤ length left.old) × (4 ≤ stages) × (stages ≤ 16) }
-    ensures { (result ≡ excess_of stages (place part.now) n) × Patterned n (λ k. left_ℤ stages (place part.now k)) left.new }
+pub(crate) fn excess(stages: Stages, n: usize, part: &[i16], left: &mut [u32]) -> i64
+    requires { (n ≤ length part.now) × (n ≤ 128) × (n ≤ length left.old) }
+    ensures { (result ≡ excess_of stages.count (place part.now) n) × Patterned n (λ k. left_ℤ stages.count (place part.now k)) left.new }
 {
     left::raise(n, part, left);
     let numbers = left::sum(n, left) as i64;
@@ -82,9 +83,9 @@ pub(crate) fn excess(stages: usize, n: usize, part: &[i16], left: &mut [u32]) ->
 }
 
 // The codes of a part, and what the offsets add to the sums of rows with all of it.
-pub(crate) fn coded(stages: usize, part: &[i16], held: &mut [u32], left: &mut [u32]) -> i64
-    requires { (length part.now ≤ 128) × (length held.old ≡ 1792) × (length left.old ≡ 128) × (4 ≤ stages) × (stages ≤ 16) }
-    ensures { Coded stages part.now held.new × (result ≡ excess_of stages (place part.now) (length part.now)) }
+pub(crate) fn coded(stages: Stages, part: &[i16], held: &mut [u32], left: &mut [u32]) -> i64
+    requires { (length part.now ≤ 128) × (length held.old ≡ 1792) × (length left.old ≡ 128) }
+    ensures { Coded stages.count part.now held.new × (result ≡ excess_of stages.count (place part.now) (length part.now)) }
 {
     let n = part.len();
     left::high_bytes(n, part, left);

@@ -7,6 +7,7 @@ ghost use Rattle.blocks.specs.Counts.{total};
 ghost use Rattle.many_stages.specs.Powers.{high_byte, low_byte};
 ghost use Rattle.many_stages.specs.Strips.{Patterned};
 
+use crate::count::Stages;
 use crate::powers;
 
 // The patterns of n numbers.
@@ -74,13 +75,13 @@ fn next_four(n: usize, left: &mut [u32])
 }
 
 // Those of what all stages leave: the first four at once, and the others one by one or by fours.
-pub(crate) fn leave(stages: usize, n: usize, left: &mut [u32])
-    requires { ((f : ℕ → ℤ) × Patterned n f left.old) × (stages ≤ 16) }
-    ensures { (f : ℕ → ℤ) → Patterned n f left.old → Patterned n (λ k. left_ℤ stages (f k)) left.new }
+pub(crate) fn leave(stages: Stages, n: usize, left: &mut [u32])
+    requires { (f : ℕ → ℤ) × Patterned n f left.old }
+    ensures { (f : ℕ → ℤ) → Patterned n f left.old → Patterned n (λ k. left_ℤ stages.count (f k)) left.new }
 {
     let mut i = 0;
-    while i < stages {
-        if i + 4 <= stages {
+    while i < stages.count {
+        if i + 4 <= stages.count {
             next_four(n, left);
             i += 4;
         } else {

@@ -4,21 +4,22 @@
 // Any slices are taken, as `strips` takes them.
 #![tactic(auto)]
 
-ghost use Rattle.std.specs.Prelude.{◌≡◌};
+ghost use Rattle.std.specs.Prelude.{◌≡◌, length};
+ghost use Rattle.std.proofs.Common.{rules};
 ghost use Rattle.designs.specs.Designs.{staged};
-ghost use Rattle.strips.specs.Strips.{Scored};
-ghost use Rattle.many_stages.specs.Strips.{many_of};
+ghost use Rattle.patterns.specs.Blocks.{place};
+ghost use Rattle.many_stages.specs.Strips.{Coded, excess_of, many_of};
 
+mod count;
 mod frame;
 mod left;
 mod powers;
-mod rows;
 mod sums;
 
-// The most numbers of a strip, and of a frame.
-pub const STRIP: usize = 128;
+use strips::InStrips;
 
-pub const MOST: usize = 4096;
+// The most numbers of a strip.
+pub const STRIP: usize = 128;
 
 // The places for the codes of a strip: of four powers for the high byte of each number and four for the low one, and of six for what the stages
 // leave of it.
@@ -28,34 +29,57 @@ pub(crate) const CODES: usize = 1792;
 // by one call of memset more.
 pub(crate) const UNSET: u32 = 66051;
 
-// At least four stages, and at most 16.
-fn taken(stages: u32) -> usize
-    ensures { result ≡ many_of stages }
-{
-    if stages < 4 {
-        return 4;
-    }
-    if 16 < stages {
-        return 16;
-    }
-    stages as usize
+// Design 3; fewer stages than 4 act as 4, and more than 16 as 16.
+#[derive(Clone, Copy)]
+pub struct ManyStages {
+    pub stages: u32,
 }
 
-// By design 3; fewer stages than 4 act as 4, and more than 16 as 16.
-pub fn staged(stages: u32, weights: &[i16], frame: &[i16], scores: &mut [i64])
-    ensures { Scored (staged (many_of stages)) weights.now frame.now scores.old scores.new }
-{
-    let columns = frame.len();
-    let to = pairs::fewer(columns, MOST);
-    let taken = taken(stages);
-    let mut held = [UNSET; CODES];
-    let mut left = [UNSET; STRIP];
-    let mut from = 0;
-    while from < to {
-        let end = strips::ahead(from, STRIP, to);
-        let part = &frame[from..end];
-        let excess = frame::coded(taken, part, &mut held[..], &mut left[..]);
-        rows::staged(taken, columns, from, weights, part, &held, excess, scores);
-        from = end;
+// The codes of a strip, what the offsets add to the sums of rows with all of it, and places to work in.
+#[derive(Clone, Copy)]
+pub struct Codes {
+    pub held: [u32; CODES],
+    pub excess: i64,
+    pub left: [u32; STRIP],
+}
+
+impl InStrips for ManyStages {
+    type Codes = Codes;
+
+    const NUMBERS: usize = STRIP;
+
+    ghost NUMBERS = { 128 };
+
+    ghost design = { λ d. staged (many_of d.stages) };
+
+    ghost coded = { λ d part c. Coded (many_of d.stages) part c.held × (c.excess ≡ excess_of (many_of d.stages) (place part) (length part)) };
+
+    ghost some = { Prim.search rules };
+
+    ghost few = { Prim.search rules };
+
+    fn blank() -> Codes {
+        Codes {
+            held: [UNSET; CODES],
+            excess: 0,
+            left: [UNSET; STRIP],
+        }
+    }
+
+    fn code(self, part: &[i16], codes: &mut Codes) {
+        let stages = count::taken(self.stages);
+        codes.excess = frame::coded(stages, part, &mut codes.held[..], &mut codes.left[..]);
+    }
+
+    fn sum(self, row: &[i16], part: &[i16], codes: &mut Codes) -> i64 {
+        let stages = count::taken(self.stages);
+        sums::sum(
+            stages,
+            row,
+            part,
+            &codes.held,
+            codes.excess,
+            &mut codes.left,
+        )
     }
 }

@@ -8,6 +8,7 @@ ghost use Rattle.blocks.specs.Counts.{total};
 ghost use Rattle.strips.specs.Strips.{Summed};
 ghost use Rattle.many_stages.specs.Strips.{Coded, excess_of, Four, FourAt, Ready, ReadyRests, Six, SixAt};
 
+use crate::count::Stages;
 use crate::frame::{LEFT, LOW};
 use crate::{CODES, STRIP, frame, left, powers};
 
@@ -105,9 +106,9 @@ fn rests(n: usize, left: &[u32], held: &[u32; CODES]) -> i64
 }
 
 // What the offsets add where n numbers of a part are taken: `all` where that is the whole part.
-fn excess(stages: usize, n: usize, part: &[i16], all: i64, left: &mut [u32; STRIP]) -> i64
-    requires { (n ≤ length part.now) × (length part.now ≤ 128) × (4 ≤ stages) × (stages ≤ 16) × (all ≡ excess_of stages (place part.now) (length part.now)) }
-    ensures { result ≡ excess_of stages (place part.now) n }
+fn excess(stages: Stages, n: usize, part: &[i16], all: i64, left: &mut [u32; STRIP]) -> i64
+    requires { (n ≤ length part.now) × (length part.now ≤ 128) × (all ≡ excess_of stages.count (place part.now) (length part.now)) }
+    ensures { result ≡ excess_of stages.count (place part.now) n }
 {
     if n < part.len() {
         return frame::excess(stages, n, part, &mut left[..]);
@@ -117,15 +118,15 @@ fn excess(stages: usize, n: usize, part: &[i16], all: i64, left: &mut [u32; STRI
 
 // The sum of the products of a row and a part.
 pub(crate) fn sum(
-    stages: usize,
+    stages: Stages,
     row: &[i16],
     part: &[i16],
     held: &[u32; CODES],
     all: i64,
     left: &mut [u32; STRIP],
 ) -> i64
-    requires { Coded stages part.now held.now × (4 ≤ stages) × (stages ≤ 16) × (all ≡ excess_of stages (place part.now) (length part.now)) }
-    ensures { Summed (staged stages) row.now part.now result }
+    requires { Coded stages.count part.now held.now × (all ≡ excess_of stages.count (place part.now) (length part.now)) }
+    ensures { Summed (staged stages.count) row.now part.now result }
 {
     let n = pairs::fewer(row.len(), part.len());
     let over = excess(stages, n, part, all, left);

@@ -6,7 +6,7 @@ use Rattle.many_stages.proofs.frame.coded.Goals as goal
 
 pub spread-requires-3 : goal.spread-requires-3
 spread-requires-3 c = (
-  (_, short-rests c.args.part.now c.high_bytes.ensures.1 c.requires.3 c.excess-over.ensures.1),
+  (_, short-rests c.args.part.now c.high_bytes.ensures.1 c.args.stages.many c.excess-over.ensures.1),
   omega arith,
   omega arith,
   c.requires.0,
@@ -19,6 +19,6 @@ returns c =
     let fits = c.high_bytes.ensures.1 in (
       strip-coded part fits c.requires.0 (c.spread.ensures _ (short-high part fits c.high_bytes.ensures.0))
           (c.spread-2.ensures _ (short-low part fits c.low_bytes.ensures))
-          (c.spread-3.ensures _ (short-rests part fits c.requires.3 c.excess-over.ensures.1)),
+          (c.spread-3.ensures _ (short-rests part fits c.args.stages.many c.excess-over.ensures.1)),
       read_back _ c.excess-over.type_inv ∙ c.excess-over.ensures.0,
     )

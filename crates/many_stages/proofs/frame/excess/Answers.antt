@@ -12,7 +12,7 @@ sum-rests-requires c = ((_, c.leave.ensures _ c.raise.ensures), c.requires.1)
 pub returns : goal.returns
 returns c =
     let f = place c.args.part.now in
-    let g = λ (k : ℕ). left_ℤ c.args.stages (f k) in
+    let g = λ (k : ℕ). left_ℤ c.args.stages.count (f k) in
     let few = c.requires.1 in
     let left = c.leave.ensures f c.raise.ensures in
     let numbers = sum_is f few c.raise.ensures.small c.sum-numbers.type_inv (c.sum-numbers.ensures f c.raise.ensures) in

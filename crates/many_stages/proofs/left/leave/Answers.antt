@@ -10,14 +10,14 @@ pub loop-i-init : goal.loop-i-init
 loop-i-init c = (omega arith, λ f p. patterned-as (λ k. sym (left-none (f k))) p)
 
 pub next_four-requires : goal.next_four-requires
-next_four-requires c = (_, c.loop-i.invariant.1 _ c.requires.0.1)
+next_four-requires c = (_, c.loop-i.invariant.1 _ c.requires.1)
 
 pub loop-i-preserved-then-i-stages : goal.loop-i-preserved-then-i-stages
 loop-i-preserved-then-i-stages c =
     (c.if-i-stages.true, λ f p. patterned-as (λ k. four-left c.loop-i.i (f k)) (c.next_four.ensures _ (c.loop-i.invariant.1 f p)))
 
 pub next-requires : goal.next-requires
-next-requires c = (_, c.loop-i.invariant.1 _ c.requires.0.1)
+next-requires c = (_, c.loop-i.invariant.1 _ c.requires.1)
 
 pub loop-i-preserved : goal.loop-i-preserved
 loop-i-preserved c = (omega arith, λ f p. patterned-as (λ k. one_left c.loop-i.i (f k)) (c.next.ensures _ (c.loop-i.invariant.1 f p)))

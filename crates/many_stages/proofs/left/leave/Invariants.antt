@@ -5,7 +5,7 @@ use Rattle.many_stages.specs.Strips.{Patterned}
 use Rattle.many_stages.proofs.left.leave.Given as goal
 
 abbrev pub invariant-loop-i : goal.invariant-loop-i
-invariant-loop-i l = (l.i ≤ l.stages) × ((f : ℕ → ℤ) → Patterned l.n f l.initial.left → Patterned l.n (λ k. left_ℤ l.i (f k)) l.left)
+invariant-loop-i l = (l.i ≤ l.stages.count) × ((f : ℕ → ℤ) → Patterned l.n f l.initial.left → Patterned l.n (λ k. left_ℤ l.i (f k)) l.left)
 
 abbrev pub decreases-loop-i : goal.decreases-loop-i
-decreases-loop-i l = l.stages - l.i
+decreases-loop-i l = l.stages.count - l.i

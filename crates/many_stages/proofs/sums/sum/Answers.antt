@@ -28,12 +28,12 @@ module _ (row : List ℤ) {s n : ℕ} {part : List ℤ} {left held : List ℕ} (
 
 pub rests-residues-requires : goal.rests-residues-requires
 rests-residues-requires c =
-    (_, _, _, rests-ready c.args.row.now c.requires.0 c.requires.1 c.fewer-n.ensures c.raise.ensures (c.leave.ensures _ c.raise.ensures))
+    (_, _, _, rests-ready c.args.row.now c.requires.0 c.args.stages.many c.fewer-n.ensures c.raise.ensures (c.leave.ensures _ c.raise.ensures))
 
 -- the sums
 module _ (c : goal.After-rests-residues) where
   abbrev s : ℕ
-  s = c.args.stages
+  s = c.args.stages.count
 
   abbrev row : List ℤ
   row = c.args.row.now
@@ -51,9 +51,9 @@ module _ (c : goal.After-rests-residues) where
       ≡ products s row part c.fewer-n.ensures weights.small coded.small coded.few
       -ℤ residues s row part c.fewer-n.ensures weights.small coded.small coded.few
   less-is =
-      ap₂ ◌-ℤ◌ (read_back _ c.whole-products.type_inv ∙ c.whole-products.ensures _ _ _ (ready row coded c.requires.1 c.fewer-n.ensures weights))
+      ap₂ ◌-ℤ◌ (read_back _ c.whole-products.type_inv ∙ c.whole-products.ensures _ _ _ (ready row coded c.args.stages.many c.fewer-n.ensures weights))
       (read_back _ c.rests-residues.type_inv
-      ∙ c.rests-residues.ensures _ _ _ (rests-ready row coded c.requires.1 c.fewer-n.ensures weights (c.leave.ensures _ weights)))
+      ∙ c.rests-residues.ensures _ _ _ (rests-ready row coded c.args.stages.many c.fewer-n.ensures weights (c.leave.ensures _ weights)))
 
   -- less what the offsets add
   total-is : to_z w64 (of_z w64 (to_z w64 (of_z w64 c.whole-products.result) -ℤ to_z w64 (of_z w64 c.rests-residues.result)))
@@ -66,16 +66,16 @@ module _ (c : goal.After-rests-residues) where
 pub overflow_sub-result : goal.overflow_sub-result
 overflow_sub-result c =
     fits-as (less-is c)
-    (first_fits c.args.stages c.args.row.now c.args.part.now c.fewer-n.ensures c.raise.ensures.small c.requires.0.small c.requires.0.few)
+    (first_fits c.args.stages.count c.args.row.now c.args.part.now c.fewer-n.ensures c.raise.ensures.small c.requires.0.small c.requires.0.few)
 
 pub overflow_sub-result-2 : goal.overflow_sub-result-2
 overflow_sub-result-2 c =
     fits-as (total-is c)
-    (sum_fits c.args.stages c.args.row.now c.args.part.now c.fewer-n.ensures c.raise.ensures.small c.requires.0.small c.requires.0.few)
+    (sum_fits c.args.stages.count c.args.row.now c.args.part.now c.fewer-n.ensures c.raise.ensures.small c.requires.0.small c.requires.0.few)
 
 pub returns : goal.returns
 returns c =
-    let s = c.args.stages in
+    let s = c.args.stages.count in
     let row = c.args.row.now in
     let part = c.args.part.now in
     let e = c.fewer-n.ensures in
