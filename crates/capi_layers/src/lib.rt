@@ -24,7 +24,10 @@ pub extern "C" fn highvane_score_layer(
 {
     let answer = layers::score_layer(design, setting, store, columns, frame, scores);
     match answer {
-        layers::Layered::Rows(rows) => ScoredLayer { rows, refusal: 0 },
-        layers::Layered::Refused(refusal) => ScoredLayer { rows: 0, refusal },
+        Ok(rows) => ScoredLayer { rows, refusal: 0 },
+        Err(refusal) => ScoredLayer {
+            rows: 0,
+            refusal: u32::from(refusal),
+        },
     }
 }

@@ -43,6 +43,10 @@ module _ (D : Design) (store fs before : List ℤ) where
       let done = all_done going.done going.inside (omega (arith, going.done.size)) in
       record { size = done.size; at = done.first }
 
+  -- the same place, said in another way
+  pub placed-as : {scores : List ℤ} {start first first' : ℕ} → first ≡ first' → Going scores start first → Going scores start first'
+  placed-as {scores} {start} e going = subst (Going scores start) e going
+
   -- the block of a turn
   module _ (framed : Framed fs) {scores block : List ℤ} {start first last : ℕ} (going : Going scores start first) (h : first < length scores)
       (e : last ≡ min (first + 16) (length scores))

@@ -11,6 +11,10 @@ use lib.Dec.{eqb}
 use lib.IntN.{ℤ, pos, nat_abs, ◌-ℤ◌}
 use lib.ListN.{drop, length, length-drop, length-take, get_or-append, take}
 use lib.Seq.{ext_get_or, get_or-drop, get_or-take}
+use Rattle.std.specs.Prelude.{Ok, Err}
+use Rattle.refusals.specs.Refusals.{number}
+use Rattle.refusals.specs.declared.Refusal.{Refusal}
+use Rattle.refusals.proofs.Judging.{numbered}
 use Rattle.designs.specs.Demand.{Bounded}
 use Rattle.designs.specs.Designs.{Design}
 use Rattle.designs.specs.Outcomes.{accepted, first, refused}
@@ -31,7 +35,6 @@ use Rattle.strips.proofs.EachRow.{total-as}
 use Rattle.layers.specs.Answers.{Layering, Row}
 use Rattle.layers.specs.Blocks.{Framed, Rowed}
 use Rattle.layers.specs.Layers.{layer_outcome, layer_refusal, layer_refusals, layer_written, row_of, score_of, scores_from, scores_too_short}
-use Rattle.layers.specs.declared.Layered.TheVariants as L
 
 -- how many scores there are, and which is at a place
 module _ (D : Design) (store : List ℤ) (columns : ℕ) (fs : List ℤ) where
@@ -73,12 +76,12 @@ module _ (design setting : ℕ) (store : List ℤ) (columns : ℕ) (fs before : 
   abbrev refusal : ℕ
   refusal = first (layer_refusals design setting (length store) columns (length fs) (length before))
 
-  pub refuse : {k : ℕ} → k ≡ refusal → (k ≡ 0 → ⊥) → Layering design setting store columns fs before before (L.Refused k)
+  pub refuse : (r : Refusal) → number r ≡ refusal → Layering design setting store columns fs before before (Err r)
   unfolding layer_outcome layer_written layer_refusal
-  refuse {k} e h =
+  refuse r e =
       record {
-        outcome = refuses n e h;
-        written = kept k h ∙ ap (λ (i : ℕ). written_unless i (scores_from D store columns fs 0 n) before) e;
+        outcome = refuses n e (numbered r);
+        written = kept (number r) (numbered r) ∙ ap (λ (i : ℕ). written_unless i (scores_from D store columns fs 0 n) before) e;
         row = λ m p. absurd (clash m p);
       }
     where
@@ -86,7 +89,7 @@ module _ (design setting : ℕ) (store : List ℤ) (columns : ℕ) (fs before : 
       kept zero h = absurd (h refl)
       kept (suc k) h = refl
 
-      clash : (m : ℕ) → refused k ≡ accepted m → ⊥
+      clash : (m : ℕ) → refused (number r) ≡ accepted m → ⊥
       clash m p = let z : ◌≡◌ {A = ℕ} 0 1 = cc in omega arith
 
   -- what the tests that were passed say
@@ -96,11 +99,11 @@ module _ (design setting : ℕ) (store : List ℤ) (columns : ℕ) (fs before : 
     pub frame : columns ≡ length fs
     pub places : n ≤ length before
 
-  pub ready : {k : ℕ} → k ≡ refusal → k ≡ 0 → Ready
+  pub ready : 0 ≡ refusal → Ready
   unfolding layer_refusals design_refusals
-  ready e z =
+  ready e =
       let lent = lengths_differ columns (length fs) ∷ scores_too_short (length before) n ∷ [] in
-      let parts = of-both (design_refusals design setting) (shape_refusals (length store) columns ++ lent) tt (sym e ∙ z) in
+      let parts = of-both (design_refusals design setting) (shape_refusals (length store) columns ++ lent) tt (sym e) in
       let later = of-both (shape_refusals (length store) columns) lent tt parts.1 in
       let tests = none lent tt later.1 in
       record {
@@ -113,9 +116,9 @@ module _ (design setting : ℕ) (store : List ℤ) (columns : ℕ) (fs before : 
   pub framed : Ready → Framed fs
   framed r = record { some = omega (arith, r.shape.some, r.frame); few = omega (arith, r.shape.few, r.frame) }
 
-  module _ {k : ℕ} (e : k ≡ refusal) (z : k ≡ 0) {new : List ℤ} (rowed : Rowed D store fs (take n before) new) where
+  module _ (e : 0 ≡ refusal) {new : List ℤ} (rowed : Rowed D store fs (take n before) new) where
     is : Ready
-    is = ready e z
+    is = ready e
 
     inside : (r : ℕ) → r < n → r * columns + columns ≤ length store
     inside r h = rw suc-mul at ((le-div_iff_mul-le is.shape.some).0 h)
@@ -132,14 +135,14 @@ module _ (design setting : ℕ) (store : List ℤ) (columns : ℕ) (fs before : 
         (λ r h. let l : r < n = omega (arith, size) in
         at r l ∙ sym (score-at D store columns fs 0 n r l ∙ ap (score_of D store columns fs) (omega arith)))
 
-    pub score : Layering design setting store columns fs before (new ++ drop n before) (L.Rows n)
+    pub score : Layering design setting store columns fs before (new ++ drop n before) (Ok n)
     unfolding layer_outcome layer_written layer_refusal
     score =
         record {
-          outcome = gives n (sym (sym e ∙ z)) refl;
+          outcome = gives n e refl;
           written =
               ap₂ (λ (l : List ℤ) (i : ℕ). l ++ drop i before) all (sym (scores-length D store columns fs 0 n))
-              ∙ ap (λ (i : ℕ). written_unless i (scores_from D store columns fs 0 n) before) (sym z ∙ e);
+              ∙ ap (λ (i : ℕ). written_unless i (scores_from D store columns fs 0 n) before) e;
           row = λ m p r h. let l : r < n = omega (arith, counted m p) in placed_row r l;
         }
       where

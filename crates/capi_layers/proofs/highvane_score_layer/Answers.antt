@@ -3,5 +3,5 @@ use Rattle.std.proofs.Common.{refl}
 use Rattle.capi_layers.proofs.LayerAnswer.{laid_out}
 use Rattle.capi_layers.proofs.highvane_score_layer.Goals as goal
 
-pub returns-in-Rows : goal.returns-in-Rows
-returns-in-Rows c = laid_out _ c.in-Rows.is c.score_layer-answer.ensures refl
+pub returns-in-Ok : goal.returns-in-Ok
+returns-in-Ok c = laid_out _ c.in-Ok.is c.score_layer-answer.ensures refl

@@ -1,7 +1,0 @@
--- After each turn the rows of one block more are done.
-use Rattle.layers.proofs.EachBlock.{next}
-use Rattle.layers.proofs.by_blocks.truncated.Goals as goal
-
-pub loop-first-preserved : goal.loop-first-preserved
-loop-first-preserved c =
-    next _ _ _ _ c.requires c.loop-first.invariant c.loop-first-test.true c.ahead-last.ensures c.truncated.ensures c.ahead-start.ensures
