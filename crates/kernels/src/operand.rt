@@ -13,7 +13,7 @@ pub(crate) struct Operand {
 }
 
 impl Operand {
-    pub fn of(x: u32) -> Option<Operand>
+    pub(crate) fn of(x: u32) -> Option<Operand>
         ensures none { IsNone result → x ≡ 0 }
         ensures some { IfSome result (λ o. o.value ≡ x) }
     {
@@ -29,7 +29,7 @@ impl Operand {
     }
 
     // How far the value can be moved up in 32 bits.
-    pub fn headroom(self) -> u32
+    pub(crate) fn headroom(self) -> u32
         ensures { result + self.log ≡ 31 }
     {
         31 - self.log
