@@ -10,7 +10,20 @@ ghost use Rattle.byte_table.specs.Table.{TableProduct};
 ghost use Rattle.singles.specs.Singles.{single_outcome};
 ghost use Rattle.transcripts.specs.Transcripts.{Written};
 ghost use Rattle.capi_rows.specs.Rows.{RowStruct};
-ghost use Rattle.capi.specs.Structs.{unsigned_struct, signed_struct, scaled_struct, single_struct};
+ghost use Rattle.capi.specs.Structs.{laid, unsigned_struct, signed_struct, scaled_struct, single_struct};
+
+use refusals::Refusal;
+use scaling::Quotients;
+
+// The value of an answer and 0, or zeros and the number of the refusal.
+fn laid<T: Copy>(answer: Result<T, Refusal>, zeros: T) -> (T, u32)
+    ensures { result ≡ laid answer zeros }
+{
+    match answer {
+        Ok(value) => (value, 0),
+        Err(refusal) => (zeros, u32::from(refusal)),
+    }
+}
 
 #[repr(C)]
 #[derive(Clone, Copy)]
@@ -36,17 +49,8 @@ pub extern "C" fn highvane_product_unsigned(
 ) -> UnsignedProduct
     ensures { result ≡ unsigned_struct (unsigned_outcome design width setting a b) }
 {
-    let answer = products::unsigned_product(design, width, setting, a, b);
-    match answer {
-        products::Unsigned::Value(product) => UnsignedProduct {
-            product,
-            refusal: 0,
-        },
-        products::Unsigned::Refused(refusal) => UnsignedProduct {
-            product: 0,
-            refusal,
-        },
-    }
+    let (product, refusal) = laid(products::unsigned_product(design, width, setting, a, b), 0);
+    UnsignedProduct { product, refusal }
 }
 
 #[unsafe(no_mangle)]
@@ -59,17 +63,8 @@ pub extern "C" fn highvane_product_signed(
 ) -> SignedProduct
     ensures { result ≡ signed_struct (signed_outcome design width setting a b) }
 {
-    let answer = products::signed_product(design, width, setting, a, b);
-    match answer {
-        products::Signed::Value(product) => SignedProduct {
-            product,
-            refusal: 0,
-        },
-        products::Signed::Refused(refusal) => SignedProduct {
-            product: 0,
-            refusal,
-        },
-    }
+    let (product, refusal) = laid(products::signed_product(design, width, setting, a, b), 0);
+    SignedProduct { product, refusal }
 }
 
 // By any design.
@@ -90,7 +85,10 @@ pub extern "C" fn highvane_score_row(
 pub extern "C" fn highvane_row_refusal(store: &[i16], columns: usize, row: usize) -> u32
     ensures { result ≡ store_refusal (length store.now) columns row }
 {
-    stores::row_refusal(store, columns, row)
+    match stores::row_part(store, columns, row) {
+        Ok(_) => 0,
+        Err(refusal) => u32::from(refusal),
+    }
 }
 
 #[repr(C)]
@@ -105,18 +103,15 @@ pub struct Scaled {
 pub extern "C" fn highvane_scale(score: i64, magnitude_sum: u64, shift: u32) -> Scaled
     ensures { result ≡ scaled_struct (scaled_outcome score magnitude_sum shift) }
 {
-    let answer = scaling::scale(score, magnitude_sum, shift);
-    match answer {
-        scaling::Scaled::Values(values) => Scaled {
-            score: values.score,
-            magnitude_sum: values.magnitude_sum,
-            refusal: 0,
-        },
-        scaling::Scaled::Refused(refusal) => Scaled {
-            score: 0.0,
-            magnitude_sum: 0.0,
-            refusal,
-        },
+    let zeros = Quotients {
+        score: 0.0,
+        magnitude_sum: 0.0,
+    };
+    let (values, refusal) = laid(scaling::scale(score, magnitude_sum, shift), zeros);
+    Scaled {
+        score: values.score,
+        magnitude_sum: values.magnitude_sum,
+        refusal,
     }
 }
 
@@ -131,14 +126,8 @@ pub struct SingleProduct {
 pub extern "C" fn highvane_single_product(a: u32, b: u32) -> SingleProduct
     ensures { result ≡ single_struct (single_outcome a b) }
 {
-    let answer = singles::single_product(a, b);
-    match answer {
-        singles::Single::Value(value) => SingleProduct { value, refusal: 0 },
-        singles::Single::Refused(refusal) => SingleProduct {
-            value: 0.0,
-            refusal,
-        },
-    }
+    let (value, refusal) = laid(singles::single_product(a, b), 0.0);
+    SingleProduct { value, refusal }
 }
 
 #[unsafe(no_mangle)]
