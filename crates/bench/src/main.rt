@@ -17,8 +17,7 @@ fn main(rt: HostRuntime) {
 fn print(rt: &HostRuntime, input: &[u8]) {
     let mut out = [0u8; transcripts::TRANSCRIPT_MAX];
     let k = transcripts::transcript(input, &mut out);
-    match streams::write_output(rt, &out[..k]) {
-        Ok(()) => {}
-        Err(error) => streams::say(rt, "writing standard output", error),
+    if let Err(error) = streams::write_output(rt, &out[..k]) {
+        streams::say(rt, "writing standard output", error);
     }
 }

@@ -1,5 +1,5 @@
 // Standard input to its end and standard output whole, by calls that may move fewer bytes than they are asked to, or none where a signal
-// comes first. A proved loop has to end, and nothing says that signals do: so each loop makes at most as many calls as no run uses up.
+// comes first.
 ghost use Rattle.std.specs.Prelude.{IfOk};
 ghost use Rattle.io.specs.Counts.{IsPrefixLen};
 
@@ -10,7 +10,9 @@ use std::{fs, io};
 // Standard output as a file, where it is one.
 const OUTPUT: &str = "/dev/stdout";
 
-// Reads until the input ends or the buffer is full, and hands back how many of its bytes then stand at the start of the buffer.
+// Reads until the input ends or the buffer is full, and hands back how many of its bytes then stand at the start of the buffer. A loop of
+// its own, since std's `read_exact` gives no count where the input ends first, and its `read_to_end` fills no slice. A proved loop has to
+// end, and nothing says that signals do: so it makes at most as many calls as no run uses up.
 pub fn read_input<R: Read>(input: &mut R, buffer: &mut [u8]) -> io::Result<usize>
     ensures { IfOk result (λ n. IsPrefixLen n buffer.new) }
 {
@@ -22,52 +24,27 @@ pub fn read_input<R: Read>(input: &mut R, buffer: &mut [u8]) -> io::Result<usize
         match input.read(&mut buffer[done..]) {
             Ok(0) => return Ok(done),
             Ok(n) => done += n,
-            Err(error) => retried(error)?,
+            // A call that a signal interrupted before it moved a byte is made again.
+            Err(error) if error.kind() == ErrorKind::Interrupted => {}
+            Err(error) => return Err(error),
         }
     }
     Err(Error::from(ErrorKind::Interrupted))
 }
 
-// Writes all of a text to standard output, and has it stored.
+// Writes all of a text to standard output, and has it stored. By the writer's `write_all`: that of printing gives up after 64 signals.
 pub fn write_output(rt: &HostRuntime, text: &[u8]) -> io::Result<()> {
-    write_all(&mut rt.stdout(), text)?;
+    Write::write_all(&mut rt.stdout(), text)?;
     store(rt)
-}
-
-fn write_all<W: Write>(output: &mut W, text: &[u8]) -> io::Result<()> {
-    let mut done = 0;
-    for _ in 0..u64::MAX {
-        if done >= text.len() {
-            return Ok(());
-        }
-        match output.write(&text[done..]) {
-            Ok(0) => return Err(Error::from(ErrorKind::WriteZero)),
-            Ok(n) => done += n,
-            Err(error) => retried(error)?,
-        }
-    }
-    Err(Error::from(ErrorKind::Interrupted))
-}
-
-// A call that a signal interrupted before it moved a byte is made again.
-fn retried(error: Error) -> io::Result<()> {
-    if error.kind() == ErrorKind::Interrupted {
-        return Ok(());
-    }
-    Err(error)
 }
 
 // A file may say only when it is stored that it had no room. A pipe or a terminal stores nothing, and what this program may not open again, or
 // cannot find, is left.
 fn store(rt: &HostRuntime) -> io::Result<()> {
-    for _ in 0..u64::MAX {
-        match store_once(rt) {
-            Ok(()) => return Ok(()),
-            Err(error) if is_out_of_reach(&error) => return Ok(()),
-            Err(error) => retried(error)?,
-        }
+    match store_once(rt) {
+        Err(error) if is_out_of_reach(&error) => Ok(()),
+        stored => stored,
     }
-    Err(Error::from(ErrorKind::Interrupted))
 }
 
 fn store_once(rt: &HostRuntime) -> io::Result<()> {
@@ -78,7 +55,10 @@ fn store_once(rt: &HostRuntime) -> io::Result<()> {
 }
 
 fn is_out_of_reach(error: &Error) -> bool {
-    (error.kind() == ErrorKind::PermissionDenied) | (error.kind() == ErrorKind::NotFound)
+    matches!(
+        error.kind(),
+        ErrorKind::PermissionDenied | ErrorKind::NotFound
+    )
 }
 
 // One line on standard error, with the system's words for the error. Where even that cannot be written nothing is left to say.
