@@ -22,7 +22,7 @@ use refusals::{Method, Refusal};
 // The report of a row: `magnitude_sum` is the scope's T, and `nonzero_pairs` its n. `largest_residue` is the largest size of a residue, and
 // `largest_place` the first place that has it. It is laid out as C has it.
 #[repr(C)]
-#[derive(Clone, Copy, Default)]
+#[derive(Clone, Copy, Debug, Default, PartialEq, Eq)]
 pub struct RowReport {
     pub score: i64,
     pub true_sum: i64,
