@@ -1,55 +1,75 @@
-// Reads the fields of a line.
-use crate::field::{Field, field_at};
+// Reads the fields of a line, each a space and a decimal number. What cannot be read is no number and no list.
+ghost use Rattle.std.specs.Prelude.{◌≤◌, IfSome};
 
-// The last seven numbers that were read, of which `g` is the very last, and where the next field starts.
-#[derive(Clone, Copy)]
-pub struct Fields {
-    pub a: u64,
-    pub b: u64,
-    pub c: u64,
-    pub d: u64,
-    pub e: u64,
-    pub f: u64,
-    pub g: u64,
-    pub next: usize,
+use std::alloc::Global;
+use std::str::{FromStr, Split};
+
+// The most that a list, a store or a slice has. A line that asks for more is not read.
+pub const LONGEST: usize = 12288;
+
+// The fields that are left to read.
+#[derive(Drop)]
+pub struct Fields<'a> {
+    words: Split<'a, char>,
 }
 
-impl Fields {
-    fn with(self, field: Field) -> Self {
-        Fields {
-            a: self.b,
-            b: self.c,
-            c: self.d,
-            d: self.e,
-            e: self.f,
-            f: self.g,
-            g: field.code,
-            next: field.next,
+impl<'a> Fields<'a> {
+    // Those of what stands behind a line's first letter.
+    pub fn of(text: &'a str) -> Option<Self> {
+        let words = text.strip_prefix(' ')?.split(' ');
+        Some(Fields { words })
+    }
+
+    // The next number. A plus sign, which `parse` takes, stands in no line.
+    pub fn number<T: FromStr>(&mut self) -> Option<T>
+    where
+        T::Err: Drop,
+    {
+        let word = self.words.next()?;
+        if word.starts_with('+') {
+            return None;
         }
+        word.parse().ok()
     }
-}
 
-// None yet, and the next one starts there.
-pub fn none(next: usize) -> Fields {
-    Fields {
-        a: 0,
-        b: 0,
-        c: 0,
-        d: 0,
-        e: 0,
-        f: 0,
-        g: 0,
-        next,
+    // The next number, which is not below zero, in an answer whose numbers have signs: 0 may be −0 there.
+    pub fn natural<T: TryFrom<i64>>(&mut self) -> Option<T>
+    where
+        T::Error: Drop,
+    {
+        T::try_from(self.number()?).ok()
     }
-}
 
-// So many fields more, of one type.
-pub fn read(line: &[u8], before: Fields, count: usize, largest: u64) -> Fields {
-    let mut fields = before;
-    let mut i = 0;
-    while i < count {
-        fields = fields.with(field_at(line, fields.next, largest));
-        i += 1;
+    pub fn length(&mut self) -> Option<usize>
+        ensures { IfSome result (λ n. n ≤ 12288) }
+    {
+        self.number().filter(|n| *n <= LONGEST)
     }
-    fields
+
+    // A length, and so many numbers.
+    pub fn list(&mut self, alloc: Global) -> Option<Vec<i16>> {
+        let count = self.length()?;
+        self.numbers(alloc, count)
+    }
+
+    // The residues or the scores that end an answer, a length and so many numbers.
+    pub fn written(&mut self, alloc: Global) -> Option<Vec<i64>> {
+        let count = self.natural()?;
+        self.numbers(alloc, count)
+    }
+
+    fn numbers<T: FromStr + Drop>(&mut self, alloc: Global, count: usize) -> Option<Vec<T>>
+    where
+        T::Err: Drop,
+    {
+        let mut numbers = Vec::new(alloc);
+        for _ in 0..count {
+            numbers.push(self.number()?).ok()?;
+        }
+        Some(numbers)
+    }
+
+    pub fn are_read(&mut self) -> bool {
+        self.words.next().is_none()
+    }
 }

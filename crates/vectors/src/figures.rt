@@ -2,21 +2,22 @@
 // lines like those of the vectors. Two kinds are of the figures alone:
 // q DESIGN WIDTH SETTING A REFUSAL PRODUCT RESIDUE: the product of A and A, and the residue that it leaves of the true product.
 // n PAIRS REFUSAL SCORE TRUE ERROR T N LARGEST PLACE RESIDUES: so many pairs (1, 1) by design 1, and of the residues only how many they are.
-use crate::field::u32_of;
-use crate::fields::{Fields, none, read};
+use crate::answers::is_due;
+use crate::fields::{Fields, LONGEST};
 use crate::lines;
-use crate::product_vectors::is_unsigned_due;
-use crate::row_vectors::{LONGEST, ROOM, count_at, due_after, is_due};
+use crate::row_vectors::answer;
 use crate::tally::Tally;
+use std::alloc::Global;
 
 // In their order: the table's rows; that design 3 at width 8 takes 8 stages, and neither 0 nor 9; that design 5 there keeps 7 bits, and
 // neither 0 nor 8, and that 6 is no design; that width 8 takes −128, and which of two operands it does not take, 128 signed or 256
 // unsigned, also beside a wrong setting; the limits of width 12, and the numbers beside it that are no widths; the starred row, a row with two
 // largest residues and one whose residues are 0; the layer; that 4,096 pairs are scored, and 4,097 not; that −20 over 2^3 is handed out as
 // −2.5, and T 39 then as 4.875; the singles.
-pub fn run() -> Tally {
-    lines::count(
-        b"q 1 8 0 255 0 65024 1
+pub fn run(alloc: Global) -> Tally {
+    lines::all(
+        alloc,
+        "q 1 8 0 255 0 65024 1
 q 1 12 0 4095 0 16769024 1
 s 1 12 0 -2048 -2048 0 4194304
 q 2 32 0 4294967295 0 18446744065119617024 1
@@ -72,32 +73,28 @@ f 12582912 1061158912 0 8388608
 f 8388608 1056964608 11 0
 f 2130706432 1073741824 10 0
 ",
-        lines::FIGURES,
     )
 }
 
-pub fn is_square(fields: Fields) -> bool {
-    let design = u32_of(fields.a);
-    let width = u32_of(fields.b);
-    let setting = u32_of(fields.c);
-    let given = products::unsigned_product(design, width, setting, fields.d, fields.d);
-    let residue = std::num::wrapping_sub_u64(true_square(u32_of(fields.d)), fields.f);
-    is_unsigned_due(given, fields.e, fields.f) & (residue == fields.g)
+pub fn is_square(fields: &mut Fields) -> Option<bool> {
+    let design = fields.number()?;
+    let width = fields.number()?;
+    let setting = fields.number()?;
+    let a = u64::from(fields.number::<u32>()?);
+    let given = products::unsigned_product(design, width, setting, a, a);
+    let refusal = fields.number()?;
+    let product: u64 = fields.number()?;
+    let residue: u64 = fields.number()?;
+    Some(is_due(given, refusal, product) && a * a == product.wrapping_add(residue))
 }
 
-fn true_square(a: u32) -> u64 {
-    a as u64 * a as u64
-}
-
-pub fn is_row_of_ones(line: &[u8]) -> bool {
-    let ones = [1i16; ROOM];
-    let count = count_at(line, 1);
-    is_scored(line, &ones[0..count])
-}
-
-fn is_scored(line: &[u8], ones: &[i16]) -> bool {
-    let mut residues = [0i64; ROOM];
+pub fn is_row_of_ones(fields: &mut Fields) -> Option<bool> {
+    let ones = [1i16; LONGEST];
+    let ones = &ones[..fields.length()?];
+    let mut residues = [0i64; LONGEST];
     let given = rows::score_row(1, 0, ones, ones, &mut residues);
-    let due = due_after(line, read(line, none(1), 1, LONGEST).next);
-    (due.last.next == line.len()) & is_due(given, ones.len() as u64, due)
+    let (refusal, report) = answer(fields)?;
+    let count: usize = fields.number()?;
+    let given = given.map(|report| (report, ones.len()));
+    Some(is_due(given, refusal, (report, count)))
 }

@@ -1,54 +1,89 @@
-// Whether what the library gives is what a line says, by the line's kind.
-use crate::field::{I64, U32, U64};
-use crate::fields::{Fields, none, read};
+// The kinds of lines, and whether what the library gives is what a line says.
+use crate::fields::Fields;
 use crate::{
     figures, layer_vectors, product_vectors, row_vectors, score_vectors, single_vectors,
     store_vectors,
 };
+use std::alloc::Global;
 
-pub fn is_right(line: &[u8], kind: u8) -> bool {
-    match kind {
-        b'l' => layer_vectors::is_layer(line),
-        b'n' => figures::is_row_of_ones(line),
-        b'r' => row_vectors::is_row(line),
-        _ => is_met(line.len(), kind, fields_of(line, kind)),
+#[derive(Clone, Copy)]
+enum Kind {
+    Unsigned,
+    Signed,
+    Row,
+    Store,
+    Layer,
+    Score,
+    Single,
+    Square,
+    RowOfOnes,
+}
+
+// The kinds that are counted together.
+#[derive(Clone, Copy, PartialEq, Eq)]
+pub enum Group {
+    Products,
+    Rows,
+    Stores,
+    Layers,
+    Scores,
+    Singles,
+}
+
+impl Kind {
+    // By the letter that a line starts with.
+    fn of(letter: char) -> Option<Kind> {
+        match letter {
+            'u' => Some(Kind::Unsigned),
+            's' => Some(Kind::Signed),
+            'r' => Some(Kind::Row),
+            't' => Some(Kind::Store),
+            'l' => Some(Kind::Layer),
+            'h' => Some(Kind::Score),
+            'f' => Some(Kind::Single),
+            'q' => Some(Kind::Square),
+            'n' => Some(Kind::RowOfOnes),
+            _ => None,
+        }
+    }
+
+    // The kinds of the figures alone are in none.
+    fn group(self) -> Option<Group> {
+        match self {
+            Kind::Unsigned | Kind::Signed => Some(Group::Products),
+            Kind::Row => Some(Group::Rows),
+            Kind::Store => Some(Group::Stores),
+            Kind::Layer => Some(Group::Layers),
+            Kind::Score => Some(Group::Scores),
+            Kind::Single => Some(Group::Singles),
+            Kind::Square | Kind::RowOfOnes => None,
+        }
     }
 }
 
-fn fields_of(line: &[u8], kind: u8) -> Fields {
-    match kind {
-        b'u' => read_all(line, 3, U32, 4, U64),
-        b's' => read_all(line, 3, U32, 4, I64),
-        b'q' => read_all(line, 4, U32, 3, U64),
-        b'h' => read_all(line, 1, I64, 5, U64),
-        b'f' => read_all(line, 4, U32, 0, U32),
-        b't' => read_all(line, 6, U64, 0, U64),
-        _ => none(0),
-    }
+pub fn group_of(line: &str) -> Option<Group> {
+    Kind::of(line.chars().next()?)?.group()
 }
 
-// So many fields of one type, and so many of another.
-fn read_all(line: &[u8], count: usize, largest: u64, rest: usize, largest_of_rest: u64) -> Fields {
-    read(
-        line,
-        read(line, none(1), count, largest),
-        rest,
-        largest_of_rest,
-    )
+// A line that cannot be read is wrong, and so is one for which there is no memory.
+pub fn is_right(alloc: Global, line: &str) -> bool {
+    is_met(alloc, line).unwrap_or(false)
 }
 
-// A line that is read has been read to its end.
-fn is_met(end: usize, kind: u8, fields: Fields) -> bool {
-    if fields.next != end {
-        return false;
-    }
-    match kind {
-        b'u' => product_vectors::is_unsigned(fields),
-        b's' => product_vectors::is_signed(fields),
-        b'q' => figures::is_square(fields),
-        b'h' => score_vectors::is_score(fields),
-        b'f' => single_vectors::is_single(fields),
-        b't' => store_vectors::is_part(fields),
-        _ => false,
-    }
+fn is_met(alloc: Global, line: &str) -> Option<bool> {
+    let mut letters = line.chars();
+    let kind = Kind::of(letters.next()?)?;
+    let mut fields = Fields::of(letters.as_str())?;
+    let is_met = match kind {
+        Kind::Unsigned => product_vectors::is_unsigned(&mut fields)?,
+        Kind::Signed => product_vectors::is_signed(&mut fields)?,
+        Kind::Row => row_vectors::is_row(alloc, &mut fields)?,
+        Kind::Store => store_vectors::is_part(alloc, &mut fields)?,
+        Kind::Layer => layer_vectors::is_layer(alloc, &mut fields)?,
+        Kind::Score => score_vectors::is_score(&mut fields)?,
+        Kind::Single => single_vectors::is_single(&mut fields)?,
+        Kind::Square => figures::is_square(&mut fields)?,
+        Kind::RowOfOnes => figures::is_row_of_ones(&mut fields)?,
+    };
+    Some(is_met && fields.are_read())
 }

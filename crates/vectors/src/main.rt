@@ -2,55 +2,61 @@
 // how many it compared and how many were wrong.
 #![tactic(auto)]
 
-mod field;
+mod answers;
 mod fields;
 mod figures;
 mod kinds;
 mod layer_vectors;
 mod lines;
 mod product_vectors;
-mod refusal;
 mod row_vectors;
 mod score_vectors;
 mod single_vectors;
-mod slices;
 mod store_vectors;
 mod table;
 mod tally;
 
+use kinds::Group;
+use std::io;
+use std::io::Read;
+
 // More than the vectors take.
 const CAPACITY: usize = 2097152;
 
-fn main() {
-    tally::print(b"figures: ", b" compared, ", figures::run());
-    tally::print(b"table: ", b" compared, ", table::run());
-    let mut buffer = [0u8; CAPACITY];
-    run(&mut buffer);
-}
+// What is counted together, under its name.
+const GROUPS: [(&str, Group); 6] = [
+    ("products", Group::Products),
+    ("rows", Group::Rows),
+    ("stores", Group::Stores),
+    ("layers", Group::Layers),
+    ("scores", Group::Scores),
+    ("singles", Group::Singles),
+];
 
-// The buffer is an array here, so that lending it as a slice asks nothing of its length.
-fn run(buffer: &mut [u8; CAPACITY]) {
-    read(buffer);
-}
-
-// An input that fills the buffer may have been cut off, and then nothing is counted.
-fn read(buffer: &mut [u8]) {
-    let length = io::read_full(0, buffer);
-    if length < buffer.len() {
-        count(&buffer[..length]);
+fn main(rt: HostRuntime) -> io::Result<()> {
+    let alloc = rt.alloc();
+    println!(rt; "figures: {}", figures::run(alloc))?;
+    println!(rt; "table: {}", table::run())?;
+    let input = read(&rt);
+    // An input of so many bytes may have been cut off, and then nothing is counted.
+    if input.len() == CAPACITY {
+        return Ok(());
     }
+    // What is no text becomes a letter that no line has.
+    count(&rt, &String::from_utf8_lossy(alloc, &input)?)
 }
 
-fn count(input: &[u8]) {
-    print(b"products: ", input, lines::PRODUCTS);
-    print(b"rows: ", input, lines::ROWS);
-    print(b"stores: ", input, lines::STORES);
-    print(b"layers: ", input, lines::LAYERS);
-    print(b"scores: ", input, lines::SCORES);
-    print(b"singles: ", input, lines::SINGLES);
-    tally::print(b"input: ", b" lines, ", lines::count(input, lines::INPUT));
+// A read that fails ends the input.
+fn read(rt: &HostRuntime) -> Vec<u8> {
+    let mut input = Vec::new(rt.alloc());
+    let _ = rt.stdin().take(CAPACITY as u64).read_to_end(&mut input);
+    input
 }
 
-fn print(name: &[u8], input: &[u8], group: u8) {
-    tally::print(name, b" compared, ", lines::count(input, group));
+fn count(rt: &HostRuntime, input: &str) -> io::Result<()> {
+    for (name, group) in GROUPS {
+        println!(rt; "{name}: {}", lines::of_group(rt.alloc(), input, group))?;
+    }
+    let known = lines::known(input);
+    println!(rt; "input: {} lines, {} wrong", known.compared, known.wrong)
 }

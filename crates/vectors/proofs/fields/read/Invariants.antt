@@ -1,6 +1,0 @@
--- `read` ends: what is left of the count falls.
-use Rattle.std.proofs.Common.{◌-◌}
-use Rattle.vectors.proofs.fields.read.Given as goal
-
-abbrev pub decreases-loop-i : goal.decreases-loop-i
-decreases-loop-i l = l.count - l.i
