@@ -85,10 +85,8 @@ pub extern "C" fn highvane_score_row(
 pub extern "C" fn highvane_row_refusal(store: &[i16], columns: usize, row: usize) -> u32
     ensures { result ≡ store_refusal (length store.now) columns row }
 {
-    match stores::row_part(store, columns, row) {
-        Ok(_) => 0,
-        Err(refusal) => u32::from(refusal),
-    }
+    let ((), refusal) = laid(stores::row_refusal(store, columns, row), ());
+    refusal
 }
 
 #[repr(C)]

@@ -20,16 +20,12 @@ impl<'a> Fields<'a> {
         Some(Fields { words })
     }
 
-    // The next number. A plus sign, which `parse` takes, stands in no line.
+    // The next number.
     pub fn number<T: FromStr>(&mut self) -> Option<T>
     where
         T::Err: Drop,
     {
-        let word = self.words.next()?;
-        if word.starts_with('+') {
-            return None;
-        }
-        word.parse().ok()
+        parsed(self.words.next()?)
     }
 
     // The next number, which is not below zero, in an answer whose numbers have signs: 0 may be −0 there.
@@ -44,6 +40,19 @@ impl<'a> Fields<'a> {
         ensures { IfSome result (λ n. n ≤ 12288) }
     {
         self.number().filter(|n| *n <= LONGEST)
+    }
+
+    // How many places a layer is lent: as many as a length says, and of any other number what its last digits make.
+    pub fn places(&mut self) -> Option<usize>
+        ensures { IfSome result (λ n. n ≤ 12288) }
+    {
+        let word = self.words.next()?;
+        parsed::<i64>(word)?;
+        let mut count = 0;
+        for byte in word.bytes() {
+            count = with_digit(count, byte);
+        }
+        Some(count).filter(|n| *n <= LONGEST)
     }
 
     // A length, and so many numbers.
@@ -72,4 +81,25 @@ impl<'a> Fields<'a> {
     pub fn are_read(&mut self) -> bool {
         self.words.next().is_none()
     }
+}
+
+// The number of a word. A plus sign, which `parse` takes, stands in no line.
+fn parsed<T: FromStr>(word: &str) -> Option<T>
+where
+    T::Err: Drop,
+{
+    if word.starts_with('+') {
+        return None;
+    }
+    word.parse().ok()
+}
+
+// The length with one digit more; none where there is no such length.
+fn with_digit(count: usize, byte: u8) -> usize {
+    let digit = usize::from(byte.wrapping_sub(b'0'));
+    let longer = count.wrapping_mul(10).wrapping_add(digit);
+    if digit > 9 || longer > LONGEST {
+        return 0;
+    }
+    longer
 }

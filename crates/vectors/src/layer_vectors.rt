@@ -11,7 +11,7 @@ pub fn is_layer(alloc: Global, fields: &mut Fields) -> Option<bool> {
     let columns = fields.number()?;
     let store = repeated(alloc, fields)?;
     let frame = repeated(alloc, fields)?;
-    let count = fields.length()?;
+    let count = fields.places()?;
     let mut places = MARKED;
     let given = layers::score_layer(
         design,

@@ -14,10 +14,13 @@ pub fn is_part(alloc: Global, fields: &mut Fields) -> Option<bool> {
     }
     // An element is the number of its place, so that a part tells where it starts.
     let store: Vec<i16> = (0..length as i16).collect(alloc).ok()?;
-    let given = stores::row_part(&store, fields.number()?, fields.number()?);
+    let (columns, row) = (fields.number()?, fields.number()?);
+    let part = stores::row_part(&store, columns, row);
+    let refused = stores::row_refusal(&store, columns, row);
     let refusal = fields.number()?;
     let start: usize = fields.number()?;
     let count = fields.number()?;
     let due = store.get(start..)?.get(..count)?;
-    Some(is_due(given.map(|part| (start, part)), refusal, (start, due)))
+    let given = refused.map(|()| (start, part));
+    Some(part == due && is_due(given, refusal, (start, due)))
 }
