@@ -54,12 +54,12 @@ fn near_power(x: Operand) -> u32
 pub fn staged(stages: u32, a: u32, b: u32) -> u64
     ensures { result ≡ product (staged stages) a b }
 {
-    let Some((a, b)) = both(a, b) else {
-        return 0;
-    };
-    if stages == 0 {
+    // tested in this order and not by `both`, by which a row of sixteen stages takes 1.05 times as long
+    if a == 0 || b == 0 || stages == 0 {
         return 0;
     }
+    let a = Operand::of(a);
+    let b = Operand::of(b);
     // 2^(k+m) + x × 2^m is a × 2^m
     let output = shifted(a.value, b.log) + shifted(b.rest, a.log);
     output + staged(stages - 1, a.rest, b.rest)

@@ -13,19 +13,16 @@ pub(crate) struct Operand {
 }
 
 impl Operand {
-    pub(crate) fn of(x: u32) -> Option<Operand>
-        ensures none { IsNone result → x ≡ 0 }
-        ensures some { IfSome result (λ o. o.value ≡ x) }
+    pub(crate) fn of(x: u32) -> Operand
+        requires { 0 < x }
+        ensures { result.value ≡ x }
     {
-        if x == 0 {
-            return None;
-        }
         let log = x.ilog2();
-        Some(Operand {
+        Operand {
             value: x,
             log,
             rest: x & !(1u32 << log),
-        })
+        }
     }
 
     // How far the value can be moved up in 32 bits.
@@ -36,12 +33,13 @@ impl Operand {
     }
 }
 
-// Both operands of a product that is not 0 for that reason alone.
+// The operands, unless one of them is 0, and so the product.
 pub(crate) fn both(a: u32, b: u32) -> Option<(Operand, Operand)>
     ensures none { IsNone result → a * b ≡ 0 }
     ensures some { IfSome result (λ o. (o.0.value ≡ a) × (o.1.value ≡ b)) }
 {
-    let x = Operand::of(a)?;
-    let y = Operand::of(b)?;
-    Some((x, y))
+    if a == 0 || b == 0 {
+        return None;
+    }
+    Some((Operand::of(a), Operand::of(b)))
 }

@@ -1,32 +1,30 @@
 -- `staged` adds one stage to the stages of what is left. Both together are at most the product of the operands, so the sum fits.
 use Rattle.std.proofs.Common.{ℕ, ◌+◌, ◌∙◌, ap₂, arith}
+use mathlib.Core.Logic.{⊎_elim}
 use Rattle.designs.specs.Designs.{staged, product}
+use Rattle.designs.proofs.Zeros.{zero_left, zero_right}
 use Rattle.kernels.proofs.StagedSteps.{Output, output, Turn, turn, no-stages}
-use Rattle.kernels.proofs.Zero.{zero}
 use Rattle.kernels.proofs.+staged.Goals as goal
 use Rattle.kernels.proofs.+staged.Goals.{After-shifted-2, After-staged}
 
 module _ (t : ℕ) where
-  output_at : (c : After-shifted-2 t) → Output c.in-Some.a.value c.in-Some.b.value (c.shifted.result + c.shifted-2.result)
+  output_at : (c : After-shifted-2 t) → Output c.of-a.result.value c.of-b.result.value (c.shifted.result + c.shifted-2.result)
   output_at c =
-      let (ea, eb) = c.in-Some.ensures.some in
-      let a = c.in-Some.a.split in
-      let b = c.in-Some.b.split in
+      let a = c.of-a.result.split in
+      let b = c.of-b.result.split in
       rw (c.shifted.ensures, c.shifted-2.ensures)
-      (output _ _ _ _ _ a.some b.some (omega (arith, c.ranges.a.fits)) (omega (arith, c.ranges.b.fits)) a.log b.log b.left)
+      (output _ _ _ _ _ a.some b.some (omega (arith, c.of-a.ensures)) (omega (arith, c.of-b.ensures)) a.log b.log b.left)
 
-  turn_at : (c : After-staged t) → Output c.in-Some.a.value c.in-Some.b.value (c.shifted.result + c.shifted-2.result)
-      → Turn c.args.stages c.in-Some.a.value c.in-Some.b.value (c.shifted.result + c.shifted-2.result + c.staged.result)
+  turn_at : (c : After-staged t) → Output c.of-a.result.value c.of-b.result.value (c.shifted.result + c.shifted-2.result)
+      → Turn c.args.stages c.of-a.result.value c.of-b.result.value (c.shifted.result + c.shifted-2.result + c.staged.result)
   turn_at c o =
-      let (ea, eb) = c.in-Some.ensures.some in
-      turn _ _ _ _ _ _ _ (omega arith) (omega (arith, c.ranges.a.fits)) (omega (arith, c.ranges.b.fits)) o.is c.in-Some.a.split.left
-      c.in-Some.b.split.left c.staged.ensures
+      turn _ _ _ _ _ _ _ (omega arith) (omega (arith, c.of-a.ensures)) (omega (arith, c.of-b.ensures)) o.is c.of-a.result.split.left
+      c.of-b.result.split.left c.staged.ensures
 
-pub returns-then-stages-eq0 : goal.returns-then-stages-eq0
-returns-then-stages-eq0 t c = no-stages _ _ _ c.if-stages-eq0.true
-
-pub returns-in_default : goal.returns-in_default
-returns-in_default t c = zero (staged _) _ _ c.in_default.ensures.none
+pub returns-then-a-eq0 : goal.returns-then-a-eq0
+returns-then-a-eq0 t c =
+    ⊎_elim (λ e. zero_left (staged _) _ _ e) (λ h. ⊎_elim (λ e. zero_right (staged _) _ _ e.1) (λ e. no-stages _ _ _ e.2) h)
+    c.then-a-eq0.either
 
 pub overflow_add-output : goal.overflow_add-output
 overflow_add-output t c = record { fits = (output_at t c).fits }
@@ -36,5 +34,4 @@ overflow_add-result t c = record { fits = (turn_at t c (output_at t (goal.at.ove
 
 pub returns : goal.returns
 returns t c =
-    let (ea, eb) = c.in-Some.ensures.some in
-    (turn_at t c (output_at t (goal.at.returns t c).After-shifted-2)).is ∙ ap₂ (product (staged c.args.stages)) ea eb
+    (turn_at t c (output_at t (goal.at.returns t c).After-shifted-2)).is ∙ ap₂ (product (staged c.args.stages)) c.of-a.ensures c.of-b.ensures

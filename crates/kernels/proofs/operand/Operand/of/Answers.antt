@@ -13,9 +13,9 @@ invariant_of-result c =
     record {
       split =
           record {
-            some = omega arith;
+            some = c.requires;
             log = log;
             small = l.bound;
-            left = rw (one_shifted k 32 l.bound, log) (cleared 32 c.args.x (omega arith) c.ranges.x.fits);
+            left = rw (one_shifted k 32 l.bound, log) (cleared 32 c.args.x c.requires c.ranges.x.fits);
           };
     }
