@@ -40,7 +40,7 @@ pub fn bits(answer: Result<f32, Refusal>) -> Result<u32, Refusal>
     ensures { pattern_given result ≡ single_given answer }
 {
     let x = answer?;
-    if x != x {
+    if x.is_nan() {
         let nan = Binary32::nan();
         return Ok(nan.to_bits());
     }
