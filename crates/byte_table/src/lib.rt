@@ -28,10 +28,7 @@ const CODES: [u16; 256] = [
 pub fn table_product(a: u8, b: u8) -> u16
     ensures { TableProduct a b result }
 {
-    if a == 0 {
-        return 0;
-    }
-    if b == 0 {
+    if a == 0 || b == 0 {
         return 0;
     }
     product_of(code_sum(&CODES, a, b))
