@@ -37,9 +37,13 @@ module _ {block : List ℤ} {size : ℕ} where
     has-not : (nat_abs (place block j) ≡ size → ⊥) → First block size (j + 1) (min p 64)
     has-not ne = let same : min p 64 ≡ p = omega (arith, so_far.inside) in rw same (kept (λ m. ne))
 
-    pub next : First block size (j + 1) (min p (cond (eqb (nat_abs (place block j)) size) j 64))
+    next : First block size (j + 1) (min p (cond (eqb (nat_abs (place block j)) size) j 64))
     next =
         by_bool (λ b. First block size (j + 1) (min p (cond b j 64))) (eqb (nat_abs (place block j)) size) (λ t. has (eqb-true _ _ t)) (λ t. has-not (eqb-false _ _ t))
+
+    -- the same with what the callees of a turn give
+    pub next-by : {q r : ℕ} → r ≡ cond (eqb (nat_abs (place block j)) size) j 64 → q ≡ min p r → First block size (j + 1) q
+    next-by is least = rw (least ∙ ap (min p) is) next
 
 -- in the first n places, lent alone
 pub of-front : {block : List ℤ} {size n p : ℕ} → n ≤ length block → First (take n block) size (length (take n block)) p → First block size n p

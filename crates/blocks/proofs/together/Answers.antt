@@ -1,6 +1,5 @@
 -- A turn puts the residue of the next pair to its place and into the sums, in which 64 pairs leave room.
-use Rattle.std.proofs.Common.{rules, ◌≡◌, arith}
-use Rattle.blocks.specs.Sums.{no_sums}
+use Rattle.std.proofs.Common.{rules, arith}
 use Rattle.blocks.proofs.Taking.{begun, next, ready, taken-all}
 use Rattle.blocks.proofs.together.Goals as goal
 

@@ -1,7 +1,6 @@
 -- A turn adds the next pair, whose residue the block holds with a size below 2^31; after n turns the sums are those of n pairs.
-use Rattle.std.proofs.Common.{rules, ◌≡◌, arith, w32, SFits, to_z-of_z}
+use Rattle.std.proofs.Common.{rules, arith, w32, SFits, to_z-of_z}
 use Rattle.patterns.specs.Blocks.{place}
-use Rattle.blocks.specs.Sums.{no_sums}
 use Rattle.blocks.proofs.Adding.{all-added, none-added, roomy, turned}
 use Rattle.blocks.proofs.sums.added.Goals as goal
 

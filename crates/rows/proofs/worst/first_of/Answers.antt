@@ -1,7 +1,7 @@
 -- A turn takes the smaller of the first place so far and of the next place, where that has the size.
-use Rattle.std.proofs.Common.{rules, ◌≡◌, min, cond, eqb, length, ℤ, nat_abs, ap, ◌∙◌, arith, w32, SFits, to_z, of_z, to_z-of_z}
+use Rattle.std.proofs.Common.{rules, ◌≡◌, cond, eqb, length, ℤ, nat_abs, ap, ◌∙◌, arith, w32, SFits, to_z, of_z, to_z-of_z}
 use Rattle.patterns.specs.Blocks.{place}
-use Rattle.rows.proofs.First.{next, none_yet}
+use Rattle.rows.proofs.First.{next-by, none_yet}
 use Rattle.rows.proofs.worst.first_of.Goals as goal
 
 pub loop-j-init : goal.loop-j-init
@@ -15,8 +15,7 @@ loop-j-preserved c =
     let fits : SFits w32 (place block j) = search rules in
     let here : c.place_of.result ≡ cond (eqb (nat_abs (place block j)) (nat_abs size)) j 64 =
     c.place_of.ensures ∙ ap (λ (z : ℤ). cond (eqb (nat_abs z) (nat_abs size)) j 64) (to_z-of_z fits) in
-    let least : c.min-first.result ≡ min c.loop-j.first c.place_of.result = search rules in
-    rw (least ∙ ap (min c.loop-j.first) here) (next c.loop-j.invariant (omega arith))
+    next-by c.loop-j.invariant (omega arith) here (search rules)
 
 pub returns : goal.returns
 returns c =
