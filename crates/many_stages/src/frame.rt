@@ -18,13 +18,11 @@ fn first(n: usize, at: usize, left: &mut [u32], held: &mut [u32])
     requires { (f : ℕ → ℤ) × Stepping n f at left.old held.old }
     ensures { (f : ℕ → ℤ) → Stepping n f at left.old held.old → Patterned n (λ k. f k -ℤ next_power (f k)) left.new × Filled at n (λ k. next_power (f k)) held.old held.new }
 {
-    let mut j = 0;
-    while j < n {
+    for j in 0..n {
         let p = left[j];
         let power = powers::first_power(p);
         held[at + j] = powers::code(power);
         left[j] = powers::less(p, power);
-        j += 1;
     }
 }
 
@@ -33,13 +31,11 @@ fn next(n: usize, at: usize, left: &mut [u32], held: &mut [u32])
     requires { (f : ℕ → ℤ) × Stepping n f at left.old held.old × ((k : ℕ) → k < n → 0 < unsigned_abs (f k)) }
     ensures { (f : ℕ → ℤ) → Stepping n f at left.old held.old → ((k : ℕ) → k < n → 0 < unsigned_abs (f k)) → Patterned n (λ k. f k -ℤ next_power (f k)) left.new × Filled at n (λ k. next_power (f k)) held.old held.new }
 {
-    let mut j = 0;
-    while j < n {
+    for j in 0..n {
         let p = left[j];
         let power = powers::beyond(p);
         held[at + j] = powers::code(power);
         left[j] = powers::less(p, power);
-        j += 1;
     }
 }
 
@@ -48,11 +44,9 @@ fn last(n: usize, at: usize, left: &[u32], held: &mut [u32])
     requires { (n ≤ length left.now) × (at + n ≤ length held.old) }
     ensures { (f : ℕ → ℤ) → Patterned n f left.now → ((k : ℕ) → k < n → 0 < unsigned_abs (f k)) → Filled at n f held.old held.new }
 {
-    let mut j = 0;
-    while j < n {
+    for j in 0..n {
         let p = left[j];
         held[at + j] = powers::code(p);
-        j += 1;
     }
 }
 
@@ -62,10 +56,8 @@ fn spread(m: usize, n: usize, at: usize, left: &mut [u32], held: &mut [u32])
     ensures { (f : ℕ → ℤ) → Short n f left.old → Powered m at n f held.old held.new }
 {
     first(n, at, left, held);
-    let mut i = 1;
-    while i < m {
+    for i in 1..m {
         next(n, at + STRIP * i, left, held);
-        i += 1;
     }
     last(n, at + STRIP * m, left, held);
 }

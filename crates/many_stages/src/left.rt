@@ -1,4 +1,5 @@
-// Loops over the raised patterns of some numbers: their making, what stages of design 3 leave of the numbers, and their sum.
+// Loops over the raised patterns of some numbers: their making, what stages of design 3 leave of the numbers, and their sum. The places are
+// those of a whole strip, and n says how many are taken: a row that ends early takes fewer of them, and those of the frame stay as many.
 ghost use Rattle.std.specs.Prelude.{◌≡◌, ℕ, ◌^◌, ◌<◌, ◌≤◌, length, ℤ};
 ghost use Rattle.std.specs.Int.Signed.{mag};
 ghost use Rattle.designs.specs.Signs.{left_ℤ, rest_ℤ};
@@ -15,11 +16,9 @@ pub(crate) fn raise(n: usize, numbers: &[i16], left: &mut [u32])
     requires { (n ≤ length numbers.now) × (n ≤ length left.old) }
     ensures { Patterned n (place numbers.now) left.new }
 {
-    let mut j = 0;
-    while j < n {
+    for j in 0..n {
         let x = numbers[j];
         left[j] = patterns::raised(x);
-        j += 1;
     }
 }
 
@@ -28,11 +27,9 @@ pub(crate) fn high_bytes(n: usize, numbers: &[i16], left: &mut [u32])
     requires { (n ≤ length numbers.now) × (n ≤ length left.old) }
     ensures { Patterned n (λ k. high_byte (place numbers.now k)) left.new × ((k : ℕ) → k < n → mag (place numbers.now k) < 2 ^ 15) }
 {
-    let mut j = 0;
-    while j < n {
+    for j in 0..n {
         let x = numbers[j];
         left[j] = patterns::raised(powers::high_byte(x));
-        j += 1;
     }
 }
 
@@ -40,11 +37,9 @@ pub(crate) fn low_bytes(n: usize, numbers: &[i16], left: &mut [u32])
     requires { (n ≤ length numbers.now) × (n ≤ length left.old) }
     ensures { Patterned n (λ k. low_byte (place numbers.now k)) left.new }
 {
-    let mut j = 0;
-    while j < n {
+    for j in 0..n {
         let x = numbers[j];
         left[j] = patterns::raised(powers::low_byte(x));
-        j += 1;
     }
 }
 
@@ -53,11 +48,9 @@ fn next(n: usize, left: &mut [u32])
     requires { (f : ℕ → ℤ) × Patterned n f left.old }
     ensures { (f : ℕ → ℤ) → Patterned n f left.old → Patterned n (λ k. rest_ℤ (f k)) left.new }
 {
-    let mut j = 0;
-    while j < n {
+    for j in 0..n {
         let p = left[j];
         left[j] = powers::rest(p);
-        j += 1;
     }
 }
 
@@ -66,28 +59,22 @@ fn next_four(n: usize, left: &mut [u32])
     requires { (f : ℕ → ℤ) × Patterned n f left.old }
     ensures { (f : ℕ → ℤ) → Patterned n f left.old → Patterned n (λ k. left_ℤ 4 (f k)) left.new }
 {
-    let mut j = 0;
-    while j < n {
+    for j in 0..n {
         let p = left[j];
         left[j] = powers::rest_of_four(p);
-        j += 1;
     }
 }
 
-// Those of what all stages leave: the first four at once, and the others one by one or by fours.
+// Those of what all stages leave: as many as there are by fours, and the others one by one.
 pub(crate) fn leave(stages: Stages, n: usize, left: &mut [u32])
     requires { (f : ℕ → ℤ) × Patterned n f left.old }
     ensures { (f : ℕ → ℤ) → Patterned n f left.old → Patterned n (λ k. left_ℤ stages.count (f k)) left.new }
 {
-    let mut i = 0;
-    while i < stages.count {
-        if i + 4 <= stages.count {
-            next_four(n, left);
-            i += 4;
-        } else {
-            next(n, left);
-            i += 1;
-        }
+    for _fours in 0..stages.count / 4 {
+        next_four(n, left);
+    }
+    for _ones in 0..stages.count % 4 {
+        next(n, left);
     }
 }
 
@@ -97,11 +84,9 @@ pub(crate) fn sum(n: usize, left: &[u32]) -> i32
     ensures { (f : ℕ → ℤ) → Patterned n f left.now → result ≡ total f n }
 {
     let mut sum = 0;
-    let mut j = 0;
-    while j < n {
+    for j in 0..n {
         let p = left[j];
         sum += powers::number(p);
-        j += 1;
     }
     sum
 }

@@ -80,12 +80,10 @@ fn whole(n: usize, left: &[u32], held: &[u32; CODES]) -> i64
 {
     let mut high = 0;
     let mut low = 0;
-    let mut j = 0;
-    while j < n {
+    for j in 0..n {
         let p = powers::plus(left[j], OFFSET);
         high += four_at(p, j, held);
         low += four_at(p, LOW + j, held);
-        j += 1;
     }
     joined(high, low)
 }
@@ -96,11 +94,9 @@ fn rests(n: usize, left: &[u32], held: &[u32; CODES]) -> i64
     ensures { (s : ℕ) (part : List ℤ) (f : ℕ → ℤ) → ReadyRests s n part f left.now held.now → result ≡ total (λ k. (f k +ℤ pos 2048) *ℤ left_ℤ s (place part k)) n }
 {
     let mut sum = 0;
-    let mut j = 0;
-    while j < n {
+    for j in 0..n {
         let p = powers::plus(left[j], LOW_OFFSET);
         sum += six_at(p, LEFT + j, held);
-        j += 1;
     }
     sum as i64
 }

@@ -1,5 +1,5 @@
 -- After i turns the codes of i powers of each number are at their places.
-use Rattle.std.proofs.Common.{ℕ, ◌-◌, ◌≤◌, List, ℤ}
+use Rattle.std.proofs.Common.{ℕ, ◌≤◌, List, ℤ}
 use Rattle.many_stages.proofs.FrameStrip.{Spreading}
 use Rattle.many_stages.proofs.frame.spread.Given as goal
 
@@ -7,6 +7,3 @@ abbrev pub invariant-loop-i : goal.invariant-loop-i
 invariant-loop-i l =
     (1 ≤ l.i) × (l.i ≤ l.m)
     × ((f : ℕ → ℤ) (before : List ℕ) → Spreading l.at l.n f before l.initial.left l.initial.held 1 → Spreading l.at l.n f before l.left l.held l.i)
-
-abbrev pub decreases-loop-i : goal.decreases-loop-i
-decreases-loop-i l = l.m - l.i

@@ -1,27 +1,41 @@
--- A turn takes one stage more, or four, of what the stages before leave.
-use Rattle.std.proofs.Common.{ℕ, sym, ap, le_antisymm, arith}
+-- A turn takes four stages more, or one, of what the stages before leave.
+use Rattle.std.proofs.Common.{◌≡◌, ℕ, ◌+◌, ◌*◌, ◌/◌, ◌%◌, sym, ap, ◌∙◌, le_antisymm, arith}
 use Rattle.designs.specs.Signs.{left_ℤ}
 use Rattle.designs.proofs.SignedLeft.{left-none}
 use Rattle.many_stages.proofs.Patterned.{patterned-as}
 use Rattle.many_stages.proofs.Stages.{four-left, one_left}
 use Rattle.many_stages.proofs.left.leave.Goals as goal
 
-pub loop-i-init : goal.loop-i-init
-loop-i-init c = (omega arith, λ f p. patterned-as (λ k. sym (left-none (f k))) p)
+pub loop-fours-init : goal.loop-fours-init
+loop-fours-init c f p = patterned-as (λ k. sym (left-none (f k))) p
 
 pub next_four-requires : goal.next_four-requires
-next_four-requires c = (_, c.loop-i.invariant.1 _ c.requires.1)
+next_four-requires c = (_, c.loop-fours.invariant _ c.requires.1)
 
-pub loop-i-preserved-then-i-stages : goal.loop-i-preserved-then-i-stages
-loop-i-preserved-then-i-stages c =
-    (c.if-i-stages.true, λ f p. patterned-as (λ k. four-left c.loop-i.i (f k)) (c.next_four.ensures _ (c.loop-i.invariant.1 f p)))
+pub loop-fours-preserved : goal.loop-fours-preserved
+loop-fours-preserved c f p =
+    patterned-as
+    (λ k. four-left (4 * c.loop-fours._fours) (f k) ∙ ap (λ (i : ℕ). left_ℤ i (f k)) (omega arith))
+    (c.next_four.ensures _ (c.loop-fours.invariant f p))
+
+pub loop-ones-init : goal.loop-ones-init
+loop-ones-init c f p =
+    let i = c.loop-fours._fours in
+    let all : i ≡ c.args.stages.count / 4 = le_antisymm c.loop-fours.auto._fours-end c.loop-fours-test.false in
+    patterned-as (λ k. ap (λ (i : ℕ). left_ℤ i (f k)) (omega (arith, all))) (c.loop-fours.invariant f p)
 
 pub next-requires : goal.next-requires
-next-requires c = (_, c.loop-i.invariant.1 _ c.requires.1)
+next-requires c = (_, c.loop-ones.invariant _ c.requires.1)
 
-pub loop-i-preserved : goal.loop-i-preserved
-loop-i-preserved c = (omega arith, λ f p. patterned-as (λ k. one_left c.loop-i.i (f k)) (c.next.ensures _ (c.loop-i.invariant.1 f p)))
+pub loop-ones-preserved : goal.loop-ones-preserved
+loop-ones-preserved c f p =
+    let s = c.args.stages.count in
+    patterned-as
+    (λ k. one_left (4 * (s / 4) + c.loop-ones._ones) (f k) ∙ ap (λ (i : ℕ). left_ℤ i (f k)) (omega arith))
+    (c.next.ensures _ (c.loop-ones.invariant f p))
 
 pub returns : goal.returns
 returns c f p =
-    patterned-as (λ k. ap (λ (s : ℕ). left_ℤ s (f k)) (le_antisymm c.loop-i.invariant.0 c.loop-i-test.false)) (c.loop-i.invariant.1 f p)
+    let i = c.loop-ones._ones in
+    let all : i ≡ c.args.stages.count % 4 = le_antisymm c.loop-ones.auto._ones-end c.loop-ones-test.false in
+    patterned-as (λ k. ap (λ (i : ℕ). left_ℤ i (f k)) (omega (arith, all))) (c.loop-ones.invariant f p)

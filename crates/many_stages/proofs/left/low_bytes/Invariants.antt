@@ -1,5 +1,4 @@
 -- After j turns the first j places have the patterns of the low bytes of as many numbers.
-use Rattle.std.proofs.Common.{◌-◌}
 use Rattle.patterns.specs.Blocks.{place}
 use Rattle.many_stages.specs.Powers.{low_byte}
 use Rattle.many_stages.proofs.Patterned.{Raising}
@@ -7,6 +6,3 @@ use Rattle.many_stages.proofs.left.low_bytes.Given as goal
 
 abbrev pub invariant-loop-j : goal.invariant-loop-j
 invariant-loop-j l = Raising l.n (λ k. low_byte (place l.numbers k)) l.initial.left l.left l.j
-
-abbrev pub decreases-loop-j : goal.decreases-loop-j
-decreases-loop-j l = l.n - l.j

@@ -1,5 +1,5 @@
 -- After j turns the first j places have the patterns of what one stage leaves.
-use Rattle.std.proofs.Common.{ℕ, ◌-◌, ◌≤◌, ℤ}
+use Rattle.std.proofs.Common.{ℕ, ◌≤◌, ℤ}
 use Rattle.designs.specs.Signs.{rest_ℤ}
 use Rattle.patterns.specs.Patterns.{raised_of}
 use Rattle.strips.proofs.EachStage.{Filled}
@@ -9,6 +9,3 @@ use Rattle.many_stages.proofs.left.next.Given as goal
 abbrev pub invariant-loop-j : goal.invariant-loop-j
 invariant-loop-j l =
     (l.j ≤ l.n) × ((f : ℕ → ℤ) → Patterned l.n f l.initial.left → Filled (λ k. raised_of (rest_ℤ (f k))) l.j l.initial.left l.left)
-
-abbrev pub decreases-loop-j : goal.decreases-loop-j
-decreases-loop-j l = l.n - l.j
