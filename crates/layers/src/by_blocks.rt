@@ -38,11 +38,7 @@ fn staged(stages: u32, store: &[i16], frame: &[i16], scores: &mut [i64])
     requires { Framed frame.now }
     ensures { Rowed (staged (stages_of stages)) store.now frame.now scores.old scores.new }
 {
-    if stages < SOME_STAGES {
-        by(Staged { stages }, store, frame, scores);
-    } else if MANY_STAGES <= stages {
-        by(ManyStages { stages }, store, frame, scores);
-    } else if scores.len() < SOME_ROWS {
+    if stages < SOME_STAGES || (stages < MANY_STAGES && scores.len() < SOME_ROWS) {
         by(Staged { stages }, store, frame, scores);
     } else {
         by(ManyStages { stages }, store, frame, scores);
