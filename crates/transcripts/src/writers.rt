@@ -35,10 +35,12 @@ impl<'a> Text<'a> {
         requires { HasRoom self.old (decimal n) }
         ensures { Appended self.old (decimal n) self.new }
     {
-        if n >= 10 {
+        if n < 10 {
+            self.put(b'0' + n as u8);
+        } else {
             self.put_number(n / 10);
+            self.put(b'0' + (n % 10) as u8);
         }
-        self.put(b'0' + (n % 10) as u8);
     }
 
     // A signed number in decimal, the lowest included.
