@@ -21,7 +21,6 @@ pub enum Refusal {
     UnknownWidth = 2,
     SettingOutOfRange = 3,
     FirstOperandOutsideWidth = 4,
-    SecondOperandOutsideWidth = 20,
     // Rows.
     LengthsDiffer = 5,
     TooManyPairs = 6,
@@ -35,8 +34,6 @@ pub enum Refusal {
     ColumnsOutOfRange = 12,
     UnevenStore = 13,
     NoSuchRow = 14,
-    // Layers.
-    ScoresTooShort = 21,
     // Scores that are handed out.
     ShiftTooLarge = 15,
     SizeTooLarge = 16,
@@ -44,6 +41,10 @@ pub enum Refusal {
     UnknownKind = 17,
     CutShort = 18,
     InputTooLong = 19,
+    // Products again.
+    SecondOperandOutsideWidth = 20,
+    // Layers.
+    ScoresTooShort = 21,
 }
 
 impl From<Refusal> for u32 {
