@@ -89,18 +89,17 @@ fn read_kind(byte: u8, left: usize) -> Result<Kind, Refusal>
     Ok(kind)
 }
 
-// The records of an input, one after the other.
+// The records of an input that are still to be read.
 #[derive(Clone, Copy)]
 pub struct Records<'a> {
     left: &'a [u8],
 }
 
-impl<'a> Records<'a> {
-    pub fn new(input: &'a [u8]) -> Records<'a>
-        ensures { records_left result ≡ records_of input.now }
-    {
-        Records { left: input }
-    }
+// All records of an input, one after the other.
+pub fn read_records(input: &[u8]) -> Records<'_>
+    ensures { records_left result ≡ records_of input.now }
+{
+    Records { left: input }
 }
 
 impl<'a> Iterator for Records<'a> {

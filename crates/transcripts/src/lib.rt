@@ -12,7 +12,7 @@ mod lines;
 mod writers;
 
 use lines::Tally;
-use records::{Records, Refusal};
+use records::Refusal;
 use writers::Text;
 
 // The most bytes that are read, and the bytes that hold the transcript of any input.
@@ -55,7 +55,7 @@ impl<'a> Text<'a> {
         ensures { Appended self.old (printed none (records_of s.now)) self.new }
     {
         let mut tally = Tally::default();
-        for entry in Records::new(s) {
+        for entry in records::read_records(s) {
             self.put_line(entry.kind, entry.answer);
             tally.count(entry.answer);
         }
