@@ -43,6 +43,16 @@ pub struct Codes {
     pub left: [u32; STRIP],
 }
 
+impl Default for Codes {
+    fn default() -> Codes {
+        Codes {
+            held: [UNSET; CODES],
+            excess: 0,
+            left: [UNSET; STRIP],
+        }
+    }
+}
+
 impl InStrips for ManyStages {
     type Codes = Codes;
 
@@ -57,14 +67,6 @@ impl InStrips for ManyStages {
     ghost some = { Prim.search rules };
 
     ghost few = { Prim.search rules };
-
-    fn blank() -> Codes {
-        Codes {
-            held: [UNSET; CODES],
-            excess: 0,
-            left: [UNSET; STRIP],
-        }
-    }
 
     fn code(self, part: &[i16], codes: &mut Codes) {
         let stages = count::taken(self.stages);

@@ -12,13 +12,11 @@ use crate::{InStrips, STRIP, UNSET, codes, products, sums};
 use patterns::methods::{Mitchell, Nearest, Truncated, TwiceTruncated};
 
 pub trait ByPairs: Copy {
-    type Codes: Drop;
+    type Codes: Default + Drop;
 
     ghost design: { Self → Design };
 
     ghost coded: { Self → List ℤ → Self.Codes → Type 0 };
-
-    fn blank() -> Self::Codes;
 
     fn code(self, part: &[i16], codes: &mut Self::Codes)
         requires { length part.now ≤ 64 }
@@ -45,10 +43,6 @@ impl<P: ByPairs> InStrips for P {
 
     ghost few = { Prim.search rules };
 
-    fn blank() -> P::Codes {
-        <P as ByPairs>::blank()
-    }
-
     fn code(self, part: &[i16], codes: &mut P::Codes) {
         ByPairs::code(self, part, codes);
     }
@@ -65,9 +59,11 @@ pub struct Codes {
     pub places: [u32; STRIP],
 }
 
-fn blank_codes() -> Codes {
-    Codes {
-        places: [UNSET; STRIP],
+impl Default for Codes {
+    fn default() -> Codes {
+        Codes {
+            places: [UNSET; STRIP],
+        }
     }
 }
 
@@ -77,10 +73,6 @@ impl ByPairs for Mitchell {
     ghost design = { λ d. mitchell };
 
     ghost coded = { λ d part c. Coded code_of part c.places };
-
-    fn blank() -> Codes {
-        blank_codes()
-    }
 
     fn code(self, part: &[i16], codes: &mut Codes) {
         codes::fill(part, &mut codes.places[..], codes::own_code);
@@ -97,10 +89,6 @@ impl ByPairs for Truncated {
     ghost design = { λ d. truncated (clamped d.kept_bits) };
 
     ghost coded = { λ d part c. Coded (code_by (kept_code 23 (clamped d.kept_bits))) part c.places };
-
-    fn blank() -> Codes {
-        blank_codes()
-    }
 
     fn code(self, part: &[i16], codes: &mut Codes) {
         let t = self.kept_bits;
@@ -120,19 +108,21 @@ pub struct NearCodes {
     pub offsets: [u32; STRIP],
 }
 
+impl Default for NearCodes {
+    fn default() -> NearCodes {
+        NearCodes {
+            powers: [UNSET; STRIP],
+            offsets: [UNSET; STRIP],
+        }
+    }
+}
+
 impl ByPairs for Nearest {
     type Codes = NearCodes;
 
     ghost design = { λ d. nearest };
 
     ghost coded = { λ d part c. Coded power_code part c.powers × Coded offset_code part c.offsets };
-
-    fn blank() -> NearCodes {
-        NearCodes {
-            powers: [UNSET; STRIP],
-            offsets: [UNSET; STRIP],
-        }
-    }
 
     fn code(self, part: &[i16], codes: &mut NearCodes) {
         codes::fill(part, &mut codes.powers[..], codes::power_code);
@@ -154,14 +144,8 @@ pub struct TwiceCodes {
     pub highs: [u32; STRIP],
 }
 
-impl ByPairs for TwiceTruncated {
-    type Codes = TwiceCodes;
-
-    ghost design = { λ d. twice_truncated (clamped d.kept_bits) };
-
-    ghost coded = { λ d part c. FourCoded (clamped d.kept_bits) part c.firsts c.rooms c.lows c.highs };
-
-    fn blank() -> TwiceCodes {
+impl Default for TwiceCodes {
+    fn default() -> TwiceCodes {
         TwiceCodes {
             firsts: [UNSET; STRIP],
             rooms: [UNSET; STRIP],
@@ -169,6 +153,14 @@ impl ByPairs for TwiceTruncated {
             highs: [UNSET; STRIP],
         }
     }
+}
+
+impl ByPairs for TwiceTruncated {
+    type Codes = TwiceCodes;
+
+    ghost design = { λ d. twice_truncated (clamped d.kept_bits) };
+
+    ghost coded = { λ d part c. FourCoded (clamped d.kept_bits) part c.firsts c.rooms c.lows c.highs };
 
     fn code(self, part: &[i16], codes: &mut TwiceCodes) {
         let t = self.kept_bits;

@@ -28,8 +28,8 @@ pub(crate) const UNSET: u32 = 66051;
 
 // A design with its setting, as it takes a strip of the frame.
 pub trait InStrips: Copy {
-    // What the numbers of a strip become.
-    type Codes: Drop;
+    // What the numbers of a strip become. By default the places are not filled.
+    type Codes: Default + Drop;
 
     // The most of them.
     const NUMBERS: usize;
@@ -40,9 +40,6 @@ pub trait InStrips: Copy {
 
     // these are the codes of a part of a frame
     ghost coded: { Self → List ℤ → Self.Codes → Type 0 };
-
-    // Places for codes, before they are filled.
-    fn blank() -> Self::Codes;
 
     fn code(self, part: &[i16], codes: &mut Self::Codes)
         requires { length part.now ≤ NUMBERS }
@@ -65,7 +62,7 @@ pub fn score<S: InStrips>(design: S, weights: &[i16], frame: &[i16], scores: &mu
 {
     let columns = frame.len();
     let counted = &frame[..pairs::fewer(columns, MOST)];
-    let mut codes = S::blank();
+    let mut codes = S::Codes::default();
     let mut from = 0;
     for part in counted.chunks(S::NUMBERS) {
         design.code(part, &mut codes);

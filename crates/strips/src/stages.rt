@@ -92,6 +92,14 @@ pub struct StageCodes {
     pub held: [u32; CODES],
 }
 
+impl Default for StageCodes {
+    fn default() -> StageCodes {
+        StageCodes {
+            held: [UNSET; CODES],
+        }
+    }
+}
+
 impl InStrips for Staged {
     type Codes = StageCodes;
 
@@ -106,12 +114,6 @@ impl InStrips for Staged {
     ghost some = { Prim.search rules };
 
     ghost few = { Prim.search rules };
-
-    fn blank() -> StageCodes {
-        StageCodes {
-            held: [UNSET; CODES],
-        }
-    }
 
     fn code(self, part: &[i16], codes: &mut StageCodes) {
         coded(taken(self.stages), part, &mut codes.held[..]);
