@@ -22,7 +22,8 @@ pub use sums::BlockSums;
 // The most pairs of a block.
 pub const BLOCK: usize = 64;
 
-// A design that takes pairs by blocks of N places. `taken` is all that it promises of them, and `holds` what every design does.
+// A design that takes pairs by blocks of N places, which have room for a block and fit in memory. `taken` is all that it promises of them, and
+// `holds` what every design does.
 pub trait ByBlocks<const N: usize>: Multiplier {
     ghost taken: { Self → List ℤ → List ℤ → List ℤ → List ℤ → BlockSums → Type 0 };
 

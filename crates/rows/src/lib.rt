@@ -1,5 +1,5 @@
 // Scoring a row of weights against a frame (docs/SCOPE.md, "Scoring a row"). The report gives the score with its exact error, and the
-// residue of each pair goes to a slice that the caller lends.
+// residue of each pair goes to a slice that the caller lends. Weights and frame are two slices throughout, as C lends them.
 #![tactic(auto)]
 
 ghost use Rattle.std.specs.Prelude.{◌≡◌};
