@@ -11,6 +11,8 @@ use lib.Dec.{eqb}
 use lib.IntN.{ℤ}
 use lib.ListN.{length, drop}
 use Rattle.std.specs.Prelude.{Result, Ok, Err}
+use Rattle.std.specs.Result.{IsErrAnd}
+use Rattle.std.proofs.lemmas.Result.{err_from_is_err_and}
 use Rattle.designs.specs.Designs.{Design, Keeps, truncated, twice_truncated}
 use Rattle.designs.specs.Outcomes.{accepted, refused}
 use Rattle.designs.specs.Products.{design_of, is_design, takes_setting}
@@ -73,7 +75,7 @@ module _ (design setting : ℕ) (ws fs before : List ℤ) where
   abbrev pub RowJudged : Result Method R.Refusal → Type 0
   RowJudged = Judged (row_refusals design setting (length ws) (length fs) (length before)) design setting
 
-  pub refuse : {r : R.Refusal} → RowJudged (Err r) → Scoring design setting ws fs before before (Err r)
+  refuse : {r : R.Refusal} → RowJudged (Err r) → Scoring design setting ws fs before before (Err r)
   unfolding row_outcome row_written row_refusal
   refuse {r} judged =
       record {
@@ -89,6 +91,10 @@ module _ (design setting : ℕ) (ws fs before : List ℤ) where
 
       clash : (q : Report) → refused (number r) ≡ accepted q → ⊥
       clash q p = let z : ◌≡◌ {A = ℕ} 0 1 = cc in omega arith
+
+  -- the same of what `?` hands on
+  pub refused_by : {a : Result RowReport R.Refusal} {r : R.Refusal} → IsErrAnd a (λ e. e ≡ r) → RowJudged (Err r) → Scoring design setting ws fs before before a
+  refused_by {a} is judged = let p = err_from_is_err_and a is in rw (p.1, p.2) (refuse judged)
 
   module _ {m : Method} (judged : RowJudged (Ok m)) where
     -- what the tests that were passed say of the design and of its setting

@@ -1,12 +1,9 @@
 -- The row is judged, and what is accepted is scored by the design that was judged.
-use Rattle.std.proofs.lemmas.Result.{err_from_is_err_and}
-use Rattle.rows.proofs.RowOutcome.{judged-as, named, ready, refuse, score, truncated-as, twice-truncated-as}
+use Rattle.rows.proofs.RowOutcome.{judged-as, named, ready, refused_by, score, truncated-as, twice-truncated-as}
 use Rattle.rows.proofs.score_row.Goals as goal
 
 pub returns-in_err-of_row : goal.returns-in_err-of_row
-returns-in_err-of_row c =
-    let p = err_from_is_err_and c.from_residual.result c.from_residual.ensures.1 in
-    rw (p.1, p.2) (refuse _ _ _ _ _ c.in_err-of_row.ensures)
+returns-in_err-of_row c = refused_by _ _ _ _ _ c.from_residual.ensures.1 c.in_err-of_row.ensures
 
 pub report-requires : goal.report-requires
 report-requires c = let judged = c.in_ok-of_row.ensures in named (judged-as _ _ _ _ _ judged c.in-Mitchell.is) (ready _ _ _ _ _ judged)

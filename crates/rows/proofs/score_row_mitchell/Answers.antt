@@ -1,13 +1,10 @@
 -- The row is judged, and what is accepted is scored.
 use Rattle.std.proofs.Common.{refl}
-use Rattle.std.proofs.lemmas.Result.{err_from_is_err_and}
-use Rattle.rows.proofs.RowOutcome.{ready, refuse, score}
+use Rattle.rows.proofs.RowOutcome.{ready, refused_by, score}
 use Rattle.rows.proofs.score_row_mitchell.Goals as goal
 
 pub returns-in_err-of_row : goal.returns-in_err-of_row
-returns-in_err-of_row c =
-    let p = err_from_is_err_and c.from_residual.result c.from_residual.ensures.1 in
-    rw (p.1, p.2) (refuse 1 _ _ _ _ c.in_err-of_row.ensures)
+returns-in_err-of_row c = refused_by 1 _ _ _ _ c.from_residual.ensures.1 c.in_err-of_row.ensures
 
 pub report-requires : goal.report-requires
 report-requires c = ready 1 _ _ _ _ c.in_ok-of_row.ensures

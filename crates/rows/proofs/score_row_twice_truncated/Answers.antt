@@ -1,13 +1,10 @@
 -- The row is judged, and what is accepted is scored, by kept bits that act as they are.
 use Rattle.std.proofs.Common.{refl}
-use Rattle.std.proofs.lemmas.Result.{err_from_is_err_and}
-use Rattle.rows.proofs.RowOutcome.{named, ready, refuse, score, twice-truncated-as}
+use Rattle.rows.proofs.RowOutcome.{named, ready, refused_by, score, twice-truncated-as}
 use Rattle.rows.proofs.score_row_twice_truncated.Goals as goal
 
 pub returns-in_err-of_row : goal.returns-in_err-of_row
-returns-in_err-of_row c =
-    let p = err_from_is_err_and c.from_residual.result c.from_residual.ensures.1 in
-    rw (p.1, p.2) (refuse 5 _ _ _ _ c.in_err-of_row.ensures)
+returns-in_err-of_row c = refused_by 5 _ _ _ _ c.from_residual.ensures.1 c.in_err-of_row.ensures
 
 pub report-requires : goal.report-requires
 report-requires c = let row = ready 5 _ _ _ _ c.in_ok-of_row.ensures in named (twice-truncated-as refl row) row
