@@ -29,7 +29,11 @@ pub fn single_product(a: u32, b: u32) -> Result<f32, Refusal>
         return Err(Refusal::Subnormal);
     }
     if zero {
-        return value(minus, 0, 0);
+        return Ok(value(Fields {
+            minus,
+            exponent: 0,
+            fraction: 0,
+        }));
     }
     normal_product(minus, x, y)
 }
@@ -54,40 +58,60 @@ fn normal_product(minus: bool, x: Binary32, y: Binary32) -> Result<f32, Refusal>
     let exponents = x.exponent_field() + y.exponent_field();
     let fractions = x.fraction_field() + y.fraction_field();
     if fractions < Binary32::HIDDEN {
-        return judged(minus, exponents, fractions);
+        return judged(Fields {
+            minus,
+            exponent: exponents,
+            fraction: fractions,
+        });
     }
-    judged(minus, exponents + 1, fractions - Binary32::HIDDEN)
+    judged(Fields {
+        minus,
+        exponent: exponents + 1,
+        fraction: fractions - Binary32::HIDDEN,
+    })
+}
+
+// The fields of a number.
+#[derive(Clone, Copy)]
+struct Fields {
+    minus: bool,
+    exponent: u32,
+    fraction: u32,
+    ghost below_hidden: { fraction < hidden binary32 },
 }
 
 // The number with these fields, or its refusal. The exponent field is still one bias too large.
-fn judged(minus: bool, exponent: u32, fraction: u32) -> Result<f32, Refusal>
-    requires { fraction < hidden binary32 }
-    ensures { answer result ≡ as_single (result_outcome binary32 minus (record { exponent = exponent - binary32.bias; fraction = fraction })) }
+fn judged(fields: Fields) -> Result<f32, Refusal>
+    ensures { answer result ≡ as_single (result_outcome binary32 fields.minus (record { exponent = fields.exponent - binary32.bias; fraction = fields.fraction })) }
 {
-    if exponent > Binary32::BIAS + Binary32::LARGEST_EXPONENT {
+    if fields.exponent > Binary32::BIAS + Binary32::LARGEST_EXPONENT {
         return Err(Refusal::ExponentTooLarge);
     }
-    if exponent < Binary32::BIAS + 1 {
+    if fields.exponent < Binary32::BIAS + 1 {
         return Err(Refusal::ExponentTooSmall);
     }
-    value(minus, exponent - Binary32::BIAS, fraction)
+    Ok(value(Fields {
+        minus: fields.minus,
+        exponent: fields.exponent - Binary32::BIAS,
+        fraction: fields.fraction,
+    }))
 }
 
 // The finite number with these fields.
-fn value(minus: bool, exponent: u32, fraction: u32) -> Result<f32, Refusal>
-    requires { (exponent ≤ largest_exponent binary32) × (fraction < hidden binary32) }
-    ensures { answer result ≡ as_single (accepted (pattern binary32 minus exponent fraction)) }
+fn value(fields: Fields) -> f32
+    requires { fields.exponent ≤ largest_exponent binary32 }
+    ensures { accepted result ≡ as_single (accepted (pattern binary32 fields.minus fields.exponent fields.fraction)) }
 {
-    Ok(f32::from_bits(pattern_of(minus, exponent, fraction)))
+    f32::from_bits(pattern_of(fields))
 }
 
-// The pattern of the finite number with a sign and these fields.
-fn pattern_of(minus: bool, exponent: u32, fraction: u32) -> u32
-    requires { (exponent ≤ largest_exponent binary32) × (fraction < hidden binary32) }
-    ensures { result ≡ pattern binary32 minus exponent fraction }
+// Its pattern.
+fn pattern_of(fields: Fields) -> u32
+    requires { fields.exponent ≤ largest_exponent binary32 }
+    ensures { result ≡ pattern binary32 fields.minus fields.exponent fields.fraction }
 {
-    let size = (exponent << Binary32::FRACTION_BITS) + fraction;
-    if minus {
+    let size = (fields.exponent << Binary32::FRACTION_BITS) + fields.fraction;
+    if fields.minus {
         return (1 << Binary32::SIGN_PLACE) + size;
     }
     size

@@ -4,18 +4,18 @@ use borrow.Author.Tests.{le-ltb, lt-ltb}
 use Rattle.singles.specs.Singles.{result_outcome}
 use Rattle.singles.proofs.judged.Goals as goal
 
-pub returns-then-exponent : goal.returns-then-exponent
+pub returns-then-fields : goal.returns-then-fields
 unfolding result_outcome
-returns-then-exponent c = simp (lt-ltb 254 (c.args.exponent - 127) (omega arith))
+returns-then-fields c = simp (lt-ltb 254 (c.args.fields.exponent - 127) (omega arith))
 
-pub returns-then-exponent-2 : goal.returns-then-exponent-2
+pub returns-then-fields-2 : goal.returns-then-fields-2
 unfolding result_outcome
-returns-then-exponent-2 c =
-    let exponent = c.args.exponent in
+returns-then-fields-2 c =
+    let exponent = c.args.fields.exponent in
     simp (le-ltb 254 (exponent - 127) (omega arith), lt-ltb (exponent - 127) 1 (omega arith))
 
 pub returns : goal.returns
 unfolding result_outcome
 returns c =
-    let exponent = c.args.exponent in
+    let exponent = c.args.fields.exponent in
     c.value.ensures ∙ simp (le-ltb 254 (exponent - 127) (omega arith), le-ltb (exponent - 127) 1 (omega arith))
