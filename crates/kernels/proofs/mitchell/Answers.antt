@@ -30,9 +30,6 @@ module _ (c : After-shifted) where
 pub returns-in_default : goal.returns-in_default
 returns-in_default c = zero mitchell _ _ c.in_default.ensures.none
 
-pub overflow_add-s : goal.overflow_add-s
-overflow_add-s c = record { fits = omega (arith, s_is c, (sum_at c).small, (sum_at c).room) }
-
 pub overflow_add-shifted : goal.overflow_add-shifted
 overflow_add-shifted c =
     let b = (goal.at.overflow_add-shifted c).After-shifted in
