@@ -25,10 +25,6 @@ pub const STRIP: usize = 128;
 // leave of it.
 pub(crate) const CODES: usize = 1792;
 
-// What a place holds before it is filled. The bytes of this number differ: equal ones, as those of 0 are, the compiler would set
-// by one call of memset more.
-pub(crate) const UNSET: u32 = 66051;
-
 // Design 3; fewer stages than 4 act as 4, and more than 16 as 16.
 #[derive(Clone, Copy)]
 pub struct ManyStages {
@@ -44,11 +40,12 @@ pub struct Codes {
 }
 
 impl Default for Codes {
+    // All bytes are 0, so that the compiler sets them in place: it would copy an array of so many other numbers.
     fn default() -> Codes {
         Codes {
-            held: [UNSET; CODES],
+            held: [0; CODES],
             excess: 0,
-            left: [UNSET; STRIP],
+            left: [0; STRIP],
         }
     }
 }

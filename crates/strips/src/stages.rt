@@ -93,10 +93,9 @@ pub struct StageCodes {
 }
 
 impl Default for StageCodes {
+    // All bytes are 0, so that the compiler sets them in place: it would copy an array of so many other numbers.
     fn default() -> StageCodes {
-        StageCodes {
-            held: [UNSET; CODES],
-        }
+        StageCodes { held: [0; CODES] }
     }
 }
 
