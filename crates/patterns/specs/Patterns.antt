@@ -60,10 +60,8 @@ clamped t = max 1 (min t 15)
 abbrev pub carried_of : ℕ → ℕ → ℕ
 carried_of t sum = (sum + cond (nat_lt (sum % 2 ^ 31) (127 * 2 ^ 23 + t * 2 ^ 23)) 0 (2 ^ (23 - t))) % 2 ^ 32
 
--- The sizes of two numbers whose true product is z, and how many bits are kept.
-pub record Sizes (t : ℕ) (z : ℤ) (A B : ℕ) : Type 0 where
-  pub some : 0 < t
-  pub few : t ≤ 15
+-- The sizes of two numbers whose true product is z.
+pub record Sizes (z : ℤ) (A B : ℕ) : Type 0 where
   pub first : A ≤ 2 ^ 15
   pub second : B ≤ 2 ^ 15
   pub truth : unsigned_abs z ≡ A * B

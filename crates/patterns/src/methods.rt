@@ -8,7 +8,7 @@ ghost use Rattle.patterns.specs.Patterns.{clamped};
 use crate::logs::{log_sum, pattern, residue_by};
 use crate::powers::offset;
 use crate::sizes::less_size;
-use crate::truncation::{clamp, cut, with_carry};
+use crate::truncation::KeptBits;
 use crate::twice::{first_stage, is_low, left_over, second_stage};
 
 // A design with its setting, and what it leaves of a pair. No product of any of them is larger than what a row has room for, since each
@@ -82,10 +82,10 @@ impl Multiplier for Truncated {
     ghost keeps = { λ d. Prim.search rules };
 
     fn residue(self, w: i16, x: i16) -> i32 {
-        let t = clamp(self.kept_bits);
+        let t = KeptBits::of(self.kept_bits);
         residue_by(
             pairs::true_product(w, x),
-            with_carry(t, log_sum(cut(t, pattern(w)), cut(t, pattern(x)))),
+            t.with_carry(log_sum(t.cut(pattern(w)), t.cut(pattern(x)))),
         )
     }
 }
@@ -102,7 +102,7 @@ impl Multiplier for TwiceTruncated {
     ghost keeps = { λ d. Prim.search rules };
 
     fn residue(self, w: i16, x: i16) -> i32 {
-        let t = clamp(self.kept_bits);
+        let t = KeptBits::of(self.kept_bits);
         let z = pairs::true_product(w, x);
         let a = pairs::size(w);
         let b = pairs::size(x);

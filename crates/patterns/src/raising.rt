@@ -4,7 +4,7 @@ ghost use Rattle.designs.specs.Codes.{kept_code};
 ghost use Rattle.patterns.specs.Patterns.{carried_of, clamped, less_power, power_of, raised_by, raised_of};
 
 use crate::powers::{HALF, POWERS};
-use crate::truncation::{clamp, cut, with_carry};
+use crate::truncation::KeptBits;
 
 // The pattern of x × 2^16; 0 for 0. Of four x at a time the compiler makes these products by a move to the upper halves of empty registers,
 // where widening each x would begin with a register that still holds something, and so wait for the pairs before.
@@ -40,12 +40,12 @@ pub fn lead(p: u32) -> u32
 pub fn kept(kept_bits: u32, p: u32) -> u32
     ensures { (z : ℤ) → unsigned_abs z ≤ 2 ^ 15 → p ≡ raised_of z → result ≡ raised_by (kept_code 23 (clamped kept_bits)) z }
 {
-    cut(clamp(kept_bits), p)
+    KeptBits::of(kept_bits).cut(p)
 }
 
 // The sum of a raised pattern and a code, both with the kept bits, with its carry.
 pub fn carried(kept_bits: u32, sum: u32) -> u32
     ensures { result ≡ carried_of (clamped kept_bits) sum }
 {
-    with_carry(clamp(kept_bits), sum)
+    KeptBits::of(kept_bits).with_carry(sum)
 }

@@ -5,29 +5,29 @@ ghost use Rattle.patterns.specs.Patterns.{clamped, is_low, Sizes};
 
 use crate::logs::{log_sum, size_pattern, unless_zero, whole_size};
 use crate::powers::{POWERS, lead};
-use crate::truncation::{HIDDEN, clamp, cut, last_kept, with_carry};
+use crate::truncation::{HIDDEN, KeptBits};
 
 // The second stage keeps two bits. Its carry stands at the last of them, and its sum is read two places higher, so that it is whole.
-const TWO: u32 = 2;
+const TWO: KeptBits = KeptBits { count: 2 };
 
-const TWO_HIGHER: u32 = (TWO << 23) + (HIDDEN >> TWO);
+const TWO_HIGHER: u32 = (TWO.count << 23) + (HIDDEN >> TWO.count);
 
 // The first stage, design 4.
-pub(crate) fn first_stage(t: u32, z: i32, a: u32, b: u32) -> u32
-    requires { Sizes t z a b }
-    ensures { result ≡ product (truncated t) a b }
+pub(crate) fn first_stage(t: KeptBits, z: i32, a: u32, b: u32) -> u32
+    requires { Sizes z a b }
+    ensures { result ≡ product (truncated t.count) a b }
 {
-    let sum = log_sum(cut(t, size_pattern(a)), cut(t, size_pattern(b)));
-    whole_size(unless_zero(z, with_carry(t, sum)))
+    let sum = log_sum(t.cut(size_pattern(a)), t.cut(size_pattern(b)));
+    whole_size(unless_zero(z, t.with_carry(sum)))
 }
 
 // Whether the kept fractions and the carry stay below 1. Where a number is 0 it is taken to be so, and nothing is left of that number. The
 // sum stands before the test, so that the compiler makes no branch of it.
-pub(crate) fn is_low(t: u32, z: i32, a: u32, b: u32) -> bool
-    requires { Sizes t z a b }
-    ensures { result ≡ is_low t a b }
+pub(crate) fn is_low(t: KeptBits, z: i32, a: u32, b: u32) -> bool
+    requires { Sizes z a b }
+    ensures { result ≡ is_low t.count a b }
 {
-    let sum = fraction(t, a) + fraction(t, b) + last_kept(t);
+    let sum = fraction(t, a) + fraction(t, b) + t.last_place();
     if z == 0 {
         return true;
     }
@@ -35,26 +35,26 @@ pub(crate) fn is_low(t: u32, z: i32, a: u32, b: u32) -> bool
 }
 
 // The kept bits of a fraction, at their place; of 0, none.
-fn fraction(t: u32, x: u32) -> u32
-    requires { (t ≤ 15) × (x ≤ 2 ^ 15) }
-    ensures { result ≡ kept t x * 2 ^ (23 - t) }
+fn fraction(t: KeptBits, x: u32) -> u32
+    requires { x ≤ 2 ^ 15 }
+    ensures { result ≡ kept t.count x * 2 ^ (23 - t.count) }
 {
     let p = size_pattern(x);
-    cut(t, p) - (p & POWERS)
+    t.cut(p) - (p & POWERS)
 }
 
 // The same of a signed number.
 pub fn fraction_of(kept_bits: u32, x: i16) -> u32
     ensures { result ≡ kept (clamped kept_bits) (unsigned_abs x) * 2 ^ (23 - clamped kept_bits) }
 {
-    fraction(clamp(kept_bits), pairs::size(x))
+    fraction(KeptBits::of(kept_bits), pairs::size(x))
 }
 
 // What the kept bits of another fraction have to stay below for the first stage to be low: 1 less those of x and the carry.
 pub fn room_of(kept_bits: u32, x: i16) -> u32
     ensures { result ≡ 2 ^ 23 - (kept (clamped kept_bits) (unsigned_abs x) + 1) * 2 ^ (23 - clamped kept_bits) }
 {
-    HIDDEN - (fraction_of(kept_bits, x) + last_kept(clamp(kept_bits)))
+    HIDDEN - (fraction_of(kept_bits, x) + KeptBits::of(kept_bits).last_place())
 }
 
 // What the first stage leaves of x: the bits below its leading one, or what these bits lack of all ones.
@@ -85,7 +85,7 @@ pub(crate) fn second_stage(x: u32, y: u32) -> u32
     requires { (x < 2 ^ 15) × (y < 2 ^ 15) × (log2 x + log2 y ≤ 27) }
     ensures { result ≡ product (truncated 2) x y }
 {
-    let sum = log_sum(cut(TWO, size_pattern(x)), cut(TWO, size_pattern(y)));
+    let sum = log_sum(TWO.cut(size_pattern(x)), TWO.cut(size_pattern(y)));
     let higher = std::num::wrapping_add_u32(sum, TWO_HIGHER);
-    whole_size(unless_zero(x as i32, unless_zero(y as i32, higher))) >> TWO
+    whole_size(unless_zero(x as i32, unless_zero(y as i32, higher))) >> TWO.count
 }

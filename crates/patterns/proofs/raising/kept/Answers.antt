@@ -5,4 +5,4 @@ use Rattle.patterns.proofs.KeptPatterns.{cut-raised}
 use Rattle.patterns.proofs.raising.kept.Goals as goal
 
 pub returns : goal.returns
-returns c z l e = rw (c.cut.ensures, e, c.clamp.ensures) (cut-raised (clamped c.args.kept_bits) (omega arith) z l)
+returns c z l e = rw (c.cut.ensures, e, c.of.ensures) (cut-raised (clamped c.args.kept_bits) (omega arith) z l)

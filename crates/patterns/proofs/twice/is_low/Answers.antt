@@ -6,17 +6,17 @@ use Rattle.patterns.proofs.SecondStage.{low-some, low-zero}
 use Rattle.patterns.proofs.twice.is_low.Goals as goal
 
 pub overflow_add-sum : goal.overflow_add-sum
-overflow_add-sum c = record { fits = omega (arith, moved-lt 23 c.args.t c.args.a c.args.b (omega arith)) }
+overflow_add-sum c = record { fits = omega (arith, moved-lt 23 c.args.t.count c.args.a c.args.b (omega arith)) }
 
 pub overflow_add-sum-2 : goal.overflow_add-sum-2
-overflow_add-sum-2 c = record { fits = omega (arith, moved-lt 23 c.args.t c.args.a c.args.b (omega arith)) }
+overflow_add-sum-2 c = record { fits = omega (arith, moved-lt 23 c.args.t.count c.args.a c.args.b (omega arith)) }
 
 pub returns-then-z-eq0 : goal.returns-then-z-eq0
-returns-then-z-eq0 c = sym (low-zero c.args.t c.args.a c.args.b (sym c.requires.truth ∙ size_none c.args.z c.ranges.z c.if-z-eq0.true))
+returns-then-z-eq0 c = sym (low-zero c.args.t.count c.args.a c.args.b (sym c.requires.truth ∙ size_none c.args.z c.ranges.z c.if-z-eq0.true))
 
 pub returns : goal.returns
 returns c =
-    let sum : c.fraction.result + c.fraction-2.result + c.last_kept.result ≡ moved 23 c.args.t c.args.a c.args.b = omega arith in
+    let sum : c.fraction.result + c.fraction-2.result + c.last_place.result ≡ moved 23 c.args.t.count c.args.a c.args.b = omega arith in
     let n = size-some c.args.z c.if-z-eq0.false in
-    ap (λ (n : ℕ). ltb n (2 ^ 23)) sum ∙ moved-below 23 c.args.t c.args.a c.args.b (omega arith)
-    ∙ sym (low-some c.args.t c.args.a c.args.b (omega (arith, n.1)))
+    ap (λ (n : ℕ). ltb n (2 ^ 23)) sum ∙ moved-below 23 c.args.t.count c.args.a c.args.b (omega arith)
+    ∙ sym (low-some c.args.t.count c.args.a c.args.b (omega (arith, n.1)))

@@ -6,19 +6,19 @@ use Rattle.designs.proofs.Truncated.{kept-lt}
 use Rattle.patterns.specs.Patterns.{clamped}
 use Rattle.patterns.proofs.twice.room_of.Goals as goal
 
-module _ (c : goal.After-last_kept) where
+module _ (c : goal.After-last_place) where
   abbrev t : ℕ
   t = clamped c.args.kept_bits
 
   abbrev A : ℕ
   A = nat_abs c.args.x
 
-  taken : c.fraction_of.result + c.last_kept.result ≡ kept t A * 2 ^ (23 - t) + 2 ^ (23 - t)
+  taken : c.fraction_of.result + c.last_place.result ≡ kept t A * 2 ^ (23 - t) + 2 ^ (23 - t)
   taken =
       ap₂ ◌+◌ (c.fraction_of.ensures ∙ ap (λ (A : ℕ). kept t A * 2 ^ (23 - t)) (ap nat_abs (to_z-of_z c.ranges.x)))
-      (c.last_kept.ensures ∙ ap (λ (t : ℕ). 2 ^ (23 - t)) c.clamp.ensures)
+      (c.last_place.ensures ∙ ap (λ (t : ℕ). 2 ^ (23 - t)) c.of.ensures)
 
-  small : c.fraction_of.result + c.last_kept.result ≤ 2 ^ 23
+  small : c.fraction_of.result + c.last_place.result ≤ 2 ^ 23
   small = omega (arith, taken, up_to 23 t (omega arith), mul-le-mul_right (2 ^ (23 - t)) (kept-lt t A))
 
 pub overflow_add-result : goal.overflow_add-result

@@ -15,9 +15,9 @@ module _ (c : After-with_carry) where
   truth : to_z w32 (of_z w32 c.true_product.result) ≡ c.args.w *ℤ c.args.x
   truth = read-true c.true_product.type_inv c.true_product.ensures c.ranges.w c.ranges.x
 
-  less : Less (to_z w32 (of_z w32 c.true_product.result)) c.with_carry.result (signed_product (truncated c.clamp-t.result) c.args.w c.args.x)
+  less : Less (to_z w32 (of_z w32 c.true_product.result)) c.with_carry.result (signed_product (truncated c.of-t.result.count) c.args.w c.args.x)
   less =
-      let t = c.clamp-t.result in
+      let t = c.of-t.result.count in
       let cut = λ (p : ℕ). bit_and p (2 ^ 32 - 2 ^ (23 - t)) in
       rw truth
       (truncated-less t (omega arith) c.args.w c.args.x (size16 c.ranges.w) (size16 c.ranges.x) (omega arith)
@@ -34,5 +34,5 @@ residue_by-requires c = (_, less (goal.at.residue_by-requires c).After-with_carr
 pub returns : goal.returns
 returns c =
     let s = (goal.at.returns c).After-with_carry in
-    residue-is (truncated c.clamp-t.result) c.args.w c.args.x c.residue_by.type_inv (c.residue_by.ensures _ (less s)) (truth s)
-    ∙ ap (λ (t : ℕ). residue (truncated t) c.args.w c.args.x) c.clamp-t.ensures
+    residue-is (truncated c.of-t.result.count) c.args.w c.args.x c.residue_by.type_inv (c.residue_by.ensures _ (less s)) (truth s)
+    ∙ ap (λ (t : ℕ). residue (truncated t) c.args.w c.args.x) c.of-t.ensures

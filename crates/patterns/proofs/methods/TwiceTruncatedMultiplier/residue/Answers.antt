@@ -10,7 +10,7 @@ use Rattle.patterns.proofs.methods.TwiceTruncatedMultiplier.residue.Goals.{After
 
 module _ (c : After-is_low-low) where
   abbrev t : ℕ
-  t = c.clamp-t.result
+  t = c.of-t.result.count
 
   abbrev A : ℕ
   A = c.size-a.result
@@ -55,11 +55,11 @@ module _ (c : After-is_low-low) where
 
 pub left_over-requires : goal.left_over-requires
 left_over-requires c =
-    (first-small (goal.at.left_over-requires c).After-is_low-low, λ e. (low-none c.clamp-t.result _ _ (sym c.is_low-low.ensures ∙ e)).0)
+    (first-small (goal.at.left_over-requires c).After-is_low-low, λ e. (low-none c.of-t.result.count _ _ (sym c.is_low-low.ensures ∙ e)).0)
 
 pub left_over-requires-2 : goal.left_over-requires-2
 left_over-requires-2 c =
-    (second-small (goal.at.left_over-requires-2 c).After-is_low-low, λ e. (low-none c.clamp-t.result _ _ (sym c.is_low-low.ensures ∙ e)).1)
+    (second-small (goal.at.left_over-requires-2 c).After-is_low-low, λ e. (low-none c.of-t.result.count _ _ (sym c.is_low-low.ensures ∙ e)).1)
 
 pub second_stage-requires : goal.second_stage-requires
 second_stage-requires c =
@@ -88,4 +88,4 @@ returns c =
     let s = (goal.at.returns c).After-is_low-low in
     let e = sum s c.first_stage.ensures c.left_over.ensures c.left_over-2.ensures c.second_stage.ensures in
     read_back c.less_size.type_inv (c.less_size.ensures ∙ less-size-is (twice_truncated (t s)) c.args.w c.args.x (truth s) e)
-    ∙ ap (λ (t : ℕ). residue (twice_truncated t) c.args.w c.args.x) c.clamp-t.ensures
+    ∙ ap (λ (t : ℕ). residue (twice_truncated t) c.args.w c.args.x) c.of-t.ensures
