@@ -2,20 +2,13 @@
 // at a time.
 ghost use Rattle.std.specs.Prelude.{◌≡◌, ℕ, ◌*◌, ◌^◌, ◌<◌, ◌≤◌, ℤ, unsigned_abs};
 ghost use Rattle.blocks.specs.Counts.{total};
-ghost use Rattle.strips.specs.Halves.{joined_of, no_halves, Roomy, with_number};
+ghost use Rattle.strips.specs.Halves.{joined_of, Roomy, with_number};
 
-// A sum, as high × 2^16 + low.
-#[derive(Clone, Copy)]
+// A sum, as high × 2^16 + low. By default that of no numbers.
+#[derive(Clone, Copy, Default)]
 pub struct Halves {
     pub high: i32,
     pub low: i32,
-}
-
-// Of no numbers.
-fn none() -> Halves
-    ensures { result ≡ no_halves }
-{
-    Halves { high: 0, low: 0 }
 }
 
 // With one number more, divided by 2^16 and rounded down.
@@ -40,7 +33,7 @@ pub(crate) fn sum<F: Fn(usize) -> i32>(n: usize, number: F) -> i64
     requires { (n ≤ 64) × ((j : ℕ) → j < n → F.pre number j) }
     ensures { (f : ℕ → ℤ) → ((j : ℕ) (z : ℤ) → j < n → F.post number j z → z ≡ f j) → (result ≡ total f n) × (unsigned_abs (total f n) ≤ n * 2 ^ 33) }
 {
-    let mut halves = none();
+    let mut halves = Halves::default();
     for j in 0..n {
         halves = with(halves, number(j));
     }

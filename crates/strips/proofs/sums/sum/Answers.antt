@@ -1,11 +1,11 @@
 -- A turn adds one number more.
-use Rattle.std.proofs.Common.{◌∙◌, le_antisymm, arith}
+use Rattle.std.proofs.Common.{rules, ◌∙◌, le_antisymm, arith}
 use Rattle.signs.proofs.Integers.{read_back}
 use Rattle.strips.proofs.HalfSums.{begun, ended, next, roomy}
 use Rattle.strips.proofs.sums.sum.Goals as goal
 
 pub loop-j-init : goal.loop-j-init
-loop-j-init g c = begun c.none-halves.ensures
+loop-j-init g c = begun (search rules)
 
 pub with-halves-requires : goal.with-halves-requires
 with-halves-requires g c = roomy c.loop-j.invariant.some.1 (omega (arith, c.loop-j-test.true, c.requires.0))
