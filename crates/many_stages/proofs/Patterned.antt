@@ -8,8 +8,7 @@ use Rattle.patterns.specs.Patterns.{raised_of}
 use Rattle.blocks.specs.Counts.{total}
 use Rattle.blocks.proofs.Counts.{total-next, total_size}
 use Rattle.strips.proofs.EachStage.{Filled, next-filled, none_filled}
-use Rattle.many_stages.specs.Strips.{Patterned}
-use Rattle.many_stages.proofs.Stages.{mag-size}
+use Rattle.many_stages.specs.Strips.{Leaving, Patterned}
 
 -- the same patterns of numbers that are equal
 pub patterned-as : {n : ℕ} {f g : ℕ → ℤ} {left : List ℕ} → ((k : ℕ) → f k ≡ g k) → Patterned n f left → Patterned n g left
@@ -42,13 +41,13 @@ module _ {n : ℕ} {f : ℕ → ℤ} {before : List ℕ} where
   all-raised r h room =
       record { room = omega (arith, r.done.size); small = λ k l. r.small k (omega arith); at = λ k l. r.done.first k (omega arith) }
 
--- the next pattern of a byte, as callees give both
-pub next-byte : (byte : ℤ → ℤ) → ((z : ℤ) → mag z < 2 ^ 15 → nat_abs (byte z) ≤ 2 ^ 7) → (numbers : List ℤ) {n : ℕ} {before left : List ℕ} {j p : ℕ} {y : ℤ}
-    → Raising n (λ k. byte (place numbers k)) before left j → j < n → n ≤ length before → mag (place numbers j) < 2 ^ 15 → mag y < 2 ^ 15
-    → y ≡ byte (to_z w16 (of_z w16 (place numbers j))) → p ≡ raised_of (to_z w16 (of_z w16 y)) → Raising n (λ k. byte (place numbers k)) before (set left j p) (j + 1)
-next-byte byte few numbers {j = j} r h room fits narrow ey ep =
-    next-raised r h room (mag-size (byte (place numbers j)) (omega (arith, few (place numbers j) fits)))
-    (ep ∙ ap raised_of (to_z-of_z {w = w16} (record { sfits = narrow }) ∙ ey ∙ ap byte (to_z-of_z {w = w16} (record { sfits = fits }))))
+-- the next pattern of what h makes of a number, as callees give both
+pub next-made : (h : ℤ → ℤ) (numbers : List ℤ) {n : ℕ} {before left : List ℕ} {j p : ℕ} {y : ℤ}
+    → Raising n (λ k. h (place numbers k)) before left j → j < n → n ≤ length before → mag (place numbers j) < 2 ^ 15 → mag y < 2 ^ 15
+    → y ≡ h (to_z w16 (of_z w16 (place numbers j))) → p ≡ raised_of (to_z w16 (of_z w16 y)) → Raising n (λ k. h (place numbers k)) before (set left j p) (j + 1)
+next-made h numbers {j = j} {y = y} r l room fits narrow ey ep =
+    let e : y ≡ h (place numbers j) = ey ∙ ap h (to_z-of_z {w = w16} (record { sfits = fits })) in
+    next-raised r l room (rw (← e) narrow) (ep ∙ ap raised_of (to_z-of_z {w = w16} (record { sfits = narrow }) ∙ e))
 
 -- a pattern that is still as it was, where the first j have changed
 pub still : {g : ℕ → ℕ} {n j : ℕ} {f : ℕ → ℤ} {before left : List ℕ} → Patterned n f before → Filled g j before left → j < n → get_or left j 0 ≡ raised_of (f j)
@@ -56,10 +55,9 @@ still {j = j} p done h = done.later j (omega arith) ∙ p.at j h
 
 -- one number more, of which a callee makes h
 pub more-taken : (h : ℤ → ℤ) {n j r : ℕ} {f : ℕ → ℤ} {before left : List ℕ} → Patterned n f before
-    → Filled (λ k. raised_of (h (f k))) j before left → j < n
-    → ((z : ℤ) → nat_abs z ≤ 2 ^ 15 → get_or left j 0 ≡ raised_of z → r ≡ raised_of (h z))
+    → Filled (λ k. raised_of (h (f k))) j before left → j < n → r ≡ raised_of (h (f j))
     → Filled (λ k. raised_of (h (f k))) (j + 1) before (set left j r)
-more-taken h {j = j} {f = f} p done l made = next-filled done (omega (arith, p.room)) (made (f j) (nat_abs-le (f j) (p.small j l)) (still p done l))
+more-taken h p done l made = next-filled done (omega (arith, p.room)) made
 
 -- the patterns of what h makes of each number
 pub all-taken : (h : ℤ → ℤ) → ((z : ℤ) → mag z < 2 ^ 15 → mag (h z) < 2 ^ 15) → {n j : ℕ} {f : ℕ → ℤ} {before left : List ℕ} → Patterned n f before
@@ -69,6 +67,17 @@ all-taken h keeps {f = f} p done l =
       room = omega (arith, p.room, done.size);
       small = λ k m. keeps (f k) (p.small k m);
       at = λ k m. done.first k (omega arith);
+    }
+
+-- a callee that makes h of patterns
+pub leaving : {pre : ℕ → Type 0} {post : ℕ → ℕ → Type 0} (h : ℤ → ℤ) → ((z : ℤ) → mag z < 2 ^ 15 → mag (h z) < 2 ^ 15)
+    → ((p : ℕ) → (z : ℤ) × (nat_abs z ≤ 2 ^ 15) × (p ≡ raised_of z) → pre p)
+    → ((p q : ℕ) → post p q → (z : ℤ) → nat_abs z ≤ 2 ^ 15 → p ≡ raised_of z → q ≡ raised_of (h z)) → Leaving pre post h
+leaving h keeps taken made =
+    record {
+      taken = λ z small. taken (raised_of z) (z, nat_abs-le z small, refl);
+      made = λ z q small e. made (raised_of z) q e z (nat_abs-le z small) refl;
+      keeps = keeps;
     }
 
 -- the sum of the first j numbers, and of one more, as a callee gives it

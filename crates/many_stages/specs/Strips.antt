@@ -23,7 +23,13 @@ pub record Patterned (n : ℕ) (f : ℕ → ℤ) (left : List ℕ) : Type 0 wher
   pub small : (k : ℕ) → k < n → mag (f k) < 2 ^ 15
   pub at : (k : ℕ) → k < n → slice_index left k ≡ raised_of (f k)
 
--- the same of numbers of at most 11 bits
+-- what takes the raised pattern of any number z of 16 bits, and gives that of h z, which has no more
+pub record Leaving (pre : ℕ → Type 0) (post : ℕ → ℕ → Type 0) (h : ℤ → ℤ) : Type 0 where
+  pub taken : (z : ℤ) → mag z < 2 ^ 15 → pre (raised_of z)
+  pub made : (z : ℤ) (p : ℕ) → mag z < 2 ^ 15 → post (raised_of z) p → p ≡ raised_of (h z)
+  pub keeps : (z : ℤ) → mag z < 2 ^ 15 → mag (h z) < 2 ^ 15
+
+-- the raised patterns of numbers of at most 11 bits
 pub record Short (n : ℕ) (f : ℕ → ℤ) (left : List ℕ) : Type 0 where
   pub patterns : Patterned n f left
   pub short : (k : ℕ) → k < n → unsigned_abs (f k) < 2 ^ 11

@@ -67,7 +67,7 @@ pub(crate) fn excess(stages: Stages, n: usize, part: &[i16], left: &mut [u32]) -
     requires { (n ≤ length part.now) × (n ≤ 128) × (n ≤ length left.old) }
     ensures { (result ≡ excess_of stages.count (place part.now) n) × Patterned n (λ k. left_ℤ stages.count (place part.now k)) left.new }
 {
-    left::raise(n, part, left);
+    left::raise(n, part, left, |x| x);
     let numbers = left::sum(n, left) as i64;
     left::leave(stages, n, left);
     let rests = left::sum(n, left) as i64;
@@ -80,9 +80,9 @@ pub(crate) fn coded(stages: Stages, part: &[i16], held: &mut [u32], left: &mut [
     ensures { Coded stages.count part.now held.new × (result ≡ excess_of stages.count (place part.now) (length part.now)) }
 {
     let n = part.len();
-    left::high_bytes(n, part, left);
+    left::raise(n, part, left, powers::high_byte);
     spread(3, n, 0, left, held);
-    left::low_bytes(n, part, left);
+    left::raise(n, part, left, powers::low_byte);
     spread(3, n, LOW, left, held);
     let over = excess(stages, n, part, left);
     spread(5, n, LEFT, left, held);

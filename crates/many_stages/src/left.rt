@@ -2,66 +2,33 @@
 // those of a whole strip, and n says how many are taken: a row that ends early takes fewer of them, and those of the frame stay as many.
 ghost use Rattle.std.specs.Prelude.{◌≡◌, ℕ, ◌^◌, ◌<◌, ◌≤◌, length, ℤ};
 ghost use Rattle.std.specs.Int.Signed.{mag};
-ghost use Rattle.designs.specs.Signs.{left_ℤ, rest_ℤ};
+ghost use Rattle.designs.specs.Signs.{left_ℤ};
 ghost use Rattle.patterns.specs.Blocks.{place};
 ghost use Rattle.blocks.specs.Counts.{total};
-ghost use Rattle.many_stages.specs.Powers.{high_byte, low_byte};
-ghost use Rattle.many_stages.specs.Strips.{Patterned};
+ghost use Rattle.many_stages.specs.Strips.{Leaving, Patterned};
 
 use crate::count::Stages;
 use crate::powers;
 
-// The patterns of n numbers.
-pub(crate) fn raise(n: usize, numbers: &[i16], left: &mut [u32])
-    requires { (n ≤ length numbers.now) × (n ≤ length left.old) }
-    ensures { Patterned n (place numbers.now) left.new }
+// The patterns of what f makes of n numbers. A number that was read has 16 bits.
+pub(crate) fn raise<F: Fn(i16) -> i16>(n: usize, numbers: &[i16], left: &mut [u32], f: F)
+    requires { (n ≤ length numbers.now) × (n ≤ length left.old) × F.IsAlwaysCallable f }
+    ensures { (h : ℤ → ℤ) → ((x y : ℤ) → mag x < 2 ^ 15 → F.post f x y → y ≡ h x) → Patterned n (λ k. h (place numbers.now k)) left.new × ((k : ℕ) → k < n → mag (place numbers.now k) < 2 ^ 15) }
 {
     for j in 0..n {
         let x = numbers[j];
-        left[j] = patterns::raised(x);
+        left[j] = patterns::raised(f(x));
     }
 }
 
-// Those of their high bytes, and of their low ones. A number that was read has 16 bits.
-pub(crate) fn high_bytes(n: usize, numbers: &[i16], left: &mut [u32])
-    requires { (n ≤ length numbers.now) × (n ≤ length left.old) }
-    ensures { Patterned n (λ k. high_byte (place numbers.now k)) left.new × ((k : ℕ) → k < n → mag (place numbers.now k) < 2 ^ 15) }
-{
-    for j in 0..n {
-        let x = numbers[j];
-        left[j] = patterns::raised(powers::high_byte(x));
-    }
-}
-
-pub(crate) fn low_bytes(n: usize, numbers: &[i16], left: &mut [u32])
-    requires { (n ≤ length numbers.now) × (n ≤ length left.old) }
-    ensures { Patterned n (λ k. low_byte (place numbers.now k)) left.new }
-{
-    for j in 0..n {
-        let x = numbers[j];
-        left[j] = patterns::raised(powers::low_byte(x));
-    }
-}
-
-// The patterns of what one stage leaves, in their places.
-fn next(n: usize, left: &mut [u32])
-    requires { (f : ℕ → ℤ) × Patterned n f left.old }
-    ensures { (f : ℕ → ℤ) → Patterned n f left.old → Patterned n (λ k. rest_ℤ (f k)) left.new }
+// The patterns of what f leaves of the numbers, in their places: f takes and gives patterns.
+fn next<F: Fn(u32) -> u32>(n: usize, left: &mut [u32], f: F)
+    requires { (h : ℤ → ℤ) × (g : ℕ → ℤ) × Leaving (F.pre f) (F.post f) h × Patterned n g left.old }
+    ensures { (h : ℤ → ℤ) (g : ℕ → ℤ) → Leaving (F.pre f) (F.post f) h → Patterned n g left.old → Patterned n (λ k. h (g k)) left.new }
 {
     for j in 0..n {
         let p = left[j];
-        left[j] = powers::rest(p);
-    }
-}
-
-// Those of what four leave.
-fn next_four(n: usize, left: &mut [u32])
-    requires { (f : ℕ → ℤ) × Patterned n f left.old }
-    ensures { (f : ℕ → ℤ) → Patterned n f left.old → Patterned n (λ k. left_ℤ 4 (f k)) left.new }
-{
-    for j in 0..n {
-        let p = left[j];
-        left[j] = powers::rest_of_four(p);
+        left[j] = f(p);
     }
 }
 
@@ -71,10 +38,10 @@ pub(crate) fn leave(stages: Stages, n: usize, left: &mut [u32])
     ensures { (f : ℕ → ℤ) → Patterned n f left.old → Patterned n (λ k. left_ℤ stages.count (f k)) left.new }
 {
     for _fours in 0..stages.count / 4 {
-        next_four(n, left);
+        next(n, left, powers::rest_of_four);
     }
     for _ones in 0..stages.count % 4 {
-        next(n, left);
+        next(n, left, powers::rest);
     }
 }
 

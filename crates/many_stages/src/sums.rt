@@ -126,7 +126,7 @@ pub(crate) fn sum(
 {
     let n = pairs::fewer(row.len(), part.len());
     let over = excess(stages, n, part, all, left);
-    left::raise(n, row, &mut left[..]);
+    left::raise(n, row, &mut left[..], |x| x);
     let products = whole(n, &left[..], held);
     left::leave(stages, n, &mut left[..]);
     let residues = rests(n, &left[..], held);

@@ -1,6 +1,6 @@
 -- The patterns are those of the weights, and then of what the stages leave of them; so the two sums are those of the products with their
 -- offsets.
-use Rattle.std.proofs.Common.{◌≡◌, ℕ, ◌≤◌, min, List, length, ℤ, ◌-ℤ◌, ◌∙◌, ap₂, arith, w64, to_z, of_z}
+use Rattle.std.proofs.Common.{◌≡◌, ℕ, ◌≤◌, min, List, length, ℤ, ◌-ℤ◌, ◌∙◌, ap₂, arith, rules, w64, to_z, of_z}
 use Rattle.designs.specs.Designs.{staged}
 use Rattle.designs.specs.Signs.{left_ℤ, signed_product}
 use Rattle.signs.proofs.Integers.{fits-as, read_as, read_back}
@@ -26,9 +26,15 @@ module _ (row : List ℤ) {s n : ℕ} {part : List ℤ} {left held : List ℕ} (
         short = λ k h. short-left s (place row k) many (p.small k h);
       }
 
+pub whole-products-requires : goal.whole-products-requires
+whole-products-requires c = (_, _, _, ready c.args.row.now c.requires.0 c.args.stages.many c.fewer-n.ensures (c.raise.ensures (λ z. z) (λ x y small made. search rules)).0)
+
+pub leave-requires : goal.leave-requires
+leave-requires c = (_, (c.raise.ensures (λ z. z) (λ x y small made. search rules)).0)
+
 pub rests-residues-requires : goal.rests-residues-requires
 rests-residues-requires c =
-    (_, _, _, rests-ready c.args.row.now c.requires.0 c.args.stages.many c.fewer-n.ensures c.raise.ensures (c.leave.ensures _ c.raise.ensures))
+    (_, _, _, rests-ready c.args.row.now c.requires.0 c.args.stages.many c.fewer-n.ensures (c.raise.ensures (λ z. z) (λ x y small made. search rules)).0 (c.leave.ensures _ (c.raise.ensures (λ z. z) (λ x y small made. search rules)).0))
 
 -- the sums
 module _ (c : goal.After-rests-residues) where
@@ -44,8 +50,8 @@ module _ (c : goal.After-rests-residues) where
   abbrev coded : Coded s part c.args.held.now
   coded = c.requires.0
 
-  abbrev weights : Patterned c.fewer-n.result (place row) c.raise.new.left
-  weights = c.raise.ensures
+  weights : Patterned c.fewer-n.result (place row) c.raise.new.left
+  weights = (c.raise.ensures (λ z. z) (λ x y small made. search rules)).0
 
   less-is : to_z w64 (of_z w64 c.whole-products.result) -ℤ to_z w64 (of_z w64 c.rests-residues.result)
       ≡ products s row part c.fewer-n.ensures weights.small coded.small coded.few
@@ -66,12 +72,12 @@ module _ (c : goal.After-rests-residues) where
 pub overflow_sub-result : goal.overflow_sub-result
 overflow_sub-result c =
     fits-as (less-is c)
-    (first_fits c.args.stages.count c.args.row.now c.args.part.now c.fewer-n.ensures c.raise.ensures.small c.requires.0.small c.requires.0.few)
+    (first_fits c.args.stages.count c.args.row.now c.args.part.now c.fewer-n.ensures (weights c).small c.requires.0.small c.requires.0.few)
 
 pub overflow_sub-result-2 : goal.overflow_sub-result-2
 overflow_sub-result-2 c =
     fits-as (total-is c)
-    (sum_fits c.args.stages.count c.args.row.now c.args.part.now c.fewer-n.ensures c.raise.ensures.small c.requires.0.small c.requires.0.few)
+    (sum_fits c.args.stages.count c.args.row.now c.args.part.now c.fewer-n.ensures (weights c).small c.requires.0.small c.requires.0.few)
 
 pub returns : goal.returns
 returns c =
@@ -79,6 +85,6 @@ returns c =
     let row = c.args.row.now in
     let part = c.args.part.now in
     let e = c.fewer-n.ensures in
-    let p = c.raise.ensures in
+    let p = weights c in
     let coded = c.requires.0 in
     summed s row part e p.small coded.small coded.few (read_as (total-is c) (sum_fits s row part e p.small coded.small coded.few))
