@@ -6,7 +6,7 @@ use Rattle.patterns.specs.Blocks.{place}
 use Rattle.patterns.specs.Patterns.{raised_of}
 use Rattle.blocks.specs.Counts.{total}
 use Rattle.strips.specs.Codes.{code_of}
-use Rattle.many_stages.specs.Powers.{high_byte, low_byte, power_at}
+use Rattle.many_stages.specs.Powers.{high_byte, low_byte, next_power, power_at}
 
 -- The stages that are taken: at least 4 and at most 16. A number of stages outside acts as the nearest of these.
 abbrev pub many_of : ℕ → ℕ
@@ -17,9 +17,9 @@ pub record Raised (z : ℤ) (p : ℕ) : Type 0 where
   pub small : unsigned_abs z ≤ 2 ^ 16
   pub pattern : p ≡ raised_of z
 
--- the raised patterns of the first n numbers that f gives, which have 16 bits
+-- the raised patterns of the first n numbers that f gives, which have 16 bits, and no more
 pub record Patterned (n : ℕ) (f : ℕ → ℤ) (left : List ℕ) : Type 0 where
-  pub room : n ≤ length left
+  pub size : length left ≡ n
   pub small : (k : ℕ) → k < n → mag (f k) < 2 ^ 15
   pub at : (k : ℕ) → k < n → slice_index left k ≡ raised_of (f k)
 
@@ -44,6 +44,10 @@ pub record Filled (at n : ℕ) (g : ℕ → ℤ) (before after : List ℕ) : Typ
 pub record Stepping (n : ℕ) (f : ℕ → ℤ) (at : ℕ) (left held : List ℕ) : Type 0 where
   pub numbers : Short n f left
   pub places : at + n ≤ length held
+
+-- what finds the next powers of n numbers, by the patterns of both
+abbrev pub Finding : (ℕ → ℕ → Type 0) → ℕ → (ℕ → ℤ) → Type 0
+Finding post n f = (k p : ℕ) → k < n → unsigned_abs (f k) ≤ 2 ^ 12 → post (raised_of (f k)) p → p ≡ raised_of (next_power (f k))
 
 -- The codes of the m + 1 powers of n numbers: 128 places from `at` on for the first power of each, 128 for the second, and so on. Places before
 -- stay.

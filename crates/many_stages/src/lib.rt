@@ -67,7 +67,8 @@ impl InStrips for ManyStages {
 
     fn code(self, part: &[i16], codes: &mut Codes) {
         let stages = count::taken(self.stages);
-        codes.excess = frame::coded(stages, part, &mut codes.held[..], &mut codes.left[..]);
+        let left = &mut codes.left[..];
+        codes.excess = frame::coded(stages, part, &mut codes.held[..], &mut left[..part.len()]);
     }
 
     fn sum(self, row: &[i16], part: &[i16], codes: &mut Codes) -> i64 {

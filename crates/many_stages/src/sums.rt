@@ -73,15 +73,15 @@ fn joined(high: i32, low: i32) -> i64
     high as i64 * 256 + low as i64
 }
 
-// The sum of the true products of n numbers, each with its offset, and those of a part.
-fn whole(n: usize, left: &[u32], held: &[u32; CODES]) -> i64
-    requires { (s : ℕ) × (part : List ℤ) × (f : ℕ → ℤ) × Ready s n part f left.now held.now }
-    ensures { (s : ℕ) (part : List ℤ) (f : ℕ → ℤ) → Ready s n part f left.now held.now → result ≡ total (λ k. (f k +ℤ pos 32769) *ℤ place part k) n }
+// The sum of the true products of the numbers, each with its offset, and those of a part.
+fn whole(left: &[u32], held: &[u32; CODES]) -> i64
+    requires { (s : ℕ) × (n : ℕ) × (part : List ℤ) × (f : ℕ → ℤ) × Ready s n part f left.now held.now }
+    ensures { (s n : ℕ) (part : List ℤ) (f : ℕ → ℤ) → Ready s n part f left.now held.now → result ≡ total (λ k. (f k +ℤ pos 32769) *ℤ place part k) n }
 {
     let mut high = 0;
     let mut low = 0;
-    for j in 0..n {
-        let p = powers::plus(left[j], OFFSET);
+    for (j, w) in left.iter().enumerate() {
+        let p = powers::plus(*w, OFFSET);
         high += four_at(p, j, held);
         low += four_at(p, LOW + j, held);
     }
@@ -89,25 +89,25 @@ fn whole(n: usize, left: &[u32], held: &[u32; CODES]) -> i64
 }
 
 // That of what the stages leave of both, with the other offset.
-fn rests(n: usize, left: &[u32], held: &[u32; CODES]) -> i64
-    requires { (s : ℕ) × (part : List ℤ) × (f : ℕ → ℤ) × ReadyRests s n part f left.now held.now }
-    ensures { (s : ℕ) (part : List ℤ) (f : ℕ → ℤ) → ReadyRests s n part f left.now held.now → result ≡ total (λ k. (f k +ℤ pos 2048) *ℤ left_ℤ s (place part k)) n }
+fn rests(left: &[u32], held: &[u32; CODES]) -> i64
+    requires { (s : ℕ) × (n : ℕ) × (part : List ℤ) × (f : ℕ → ℤ) × ReadyRests s n part f left.now held.now }
+    ensures { (s n : ℕ) (part : List ℤ) (f : ℕ → ℤ) → ReadyRests s n part f left.now held.now → result ≡ total (λ k. (f k +ℤ pos 2048) *ℤ left_ℤ s (place part k)) n }
 {
     let mut sum = 0;
-    for j in 0..n {
-        let p = powers::plus(left[j], LOW_OFFSET);
+    for (j, w) in left.iter().enumerate() {
+        let p = powers::plus(*w, LOW_OFFSET);
         sum += six_at(p, LEFT + j, held);
     }
     sum as i64
 }
 
-// What the offsets add where n numbers of a part are taken: `all` where that is the whole part.
-fn excess(stages: Stages, n: usize, part: &[i16], all: i64, left: &mut [u32; STRIP]) -> i64
-    requires { (n ≤ length part.now) × (length part.now ≤ 128) × (all ≡ excess_of stages.count (place part.now) (length part.now)) }
-    ensures { result ≡ excess_of stages.count (place part.now) n }
+// What the offsets add where as many numbers of a part are taken as there are places: `all` where that is the whole part.
+fn excess(stages: Stages, part: &[i16], all: i64, left: &mut [u32]) -> i64
+    requires { (length left.old ≤ length part.now) × (length part.now ≤ 128) × (all ≡ excess_of stages.count (place part.now) (length part.now)) }
+    ensures { result ≡ excess_of stages.count (place part.now) (length left.old) }
 {
-    if n < part.len() {
-        return frame::excess(stages, n, part, &mut left[..]);
+    if left.len() < part.len() {
+        return frame::excess(stages, part, left);
     }
     all
 }
@@ -125,10 +125,11 @@ pub(crate) fn sum(
     ensures { Summed (staged stages.count) row.now part.now result }
 {
     let n = pairs::fewer(row.len(), part.len());
-    let over = excess(stages, n, part, all, left);
-    left::raise(n, row, &mut left[..], |x| x);
-    let products = whole(n, &left[..], held);
-    left::leave(stages, n, &mut left[..]);
-    let residues = rests(n, &left[..], held);
+    let left = &mut left[..n];
+    let over = excess(stages, part, all, left);
+    left::raise(row, left, |x| x);
+    let products = whole(left, held);
+    left::leave(stages, left);
+    let residues = rests(left, held);
     products - residues - over
 }

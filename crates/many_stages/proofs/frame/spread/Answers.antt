@@ -1,5 +1,5 @@
 -- Each run takes one power more off each number, and the last one finds what the others leave.
-use Rattle.std.proofs.Common.{ℕ, ◌+◌, ◌≤◌, List, length, ℤ, ◌-ℤ◌, refl, le_antisymm, arith}
+use Rattle.std.proofs.Common.{ℕ, ◌+◌, ◌≤◌, List, length, ℤ, ◌-ℤ◌, refl, le_antisymm, arith, rules}
 use Rattle.many_stages.specs.Powers.{left_by, next_power}
 use Rattle.many_stages.specs.Strips.{Filled, Patterned, Short, Stepping}
 use Rattle.many_stages.proofs.FrameStrip.{all-spread, by-some, next-spread, none-spread, Spreading, stepping}
@@ -15,24 +15,48 @@ spreading {before = before} f s few room first more =
     let none = none-spread s in
     more f before (next-spread none (omega arith) few (first (λ k. left_by 0 (f k)) (stepping none (omega arith) (omega arith))))
 
-pub next-requires : goal.next-requires
-next-requires c =
+few : {n : ℕ} {f : ℕ → ℤ} {left : List ℕ} → Short n f left → length left ≤ 128 → n ≤ 128
+few s l = omega (arith, s.patterns.size, l)
+
+pub take_off-requires : goal.take_off-requires
+take_off-requires c =
+    let (n, f, s) = c.requires.0 in
+    (search rules, (n, f, λ k p h small e. e _ small refl, record { numbers = s; places = omega (arith, few s c.requires.3, c.requires.4, c.requires.1) }))
+
+pub take_off-requires-in-loop-i : goal.take_off-requires-in-loop-i
+take_off-requires-in-loop-i c =
     let i = c.loop-i.i in
-    let now = spreading c.requires.0.0 c.requires.0.1 c.requires.3 (omega (arith, c.requires.4)) c.first.ensures c.loop-i.invariant.2 in
-    (_, stepping now refl (omega arith), λ k h. by-some i (c.requires.0.0 k) c.loop-i.invariant.0)
+    let (n, f, s) = c.requires.0 in
+    let now =
+    spreading f s (few s c.requires.3) (omega (arith, few s c.requires.3, c.requires.4)) (λ g. c.take_off.ensures n g (λ k p h small e. e _ small refl))
+    (c.loop-i.invariant.2 n) in
+    (
+      search rules,
+      (
+        _,
+        _,
+        λ k p h small e. e _ (by-some i (f k) c.loop-i.invariant.0) small refl,
+        stepping now refl (omega (arith, few s c.requires.3, c.requires.4, c.loop-i-test.true)),
+      ),
+    )
 
 pub loop-i-preserved : goal.loop-i-preserved
 loop-i-preserved c = (
   omega arith,
   omega arith,
-  λ f before s.
-      let now = c.loop-i.invariant.2 f before s in
-      next-spread now refl c.requires.3
-      (c.next.ensures _ (stepping now refl (omega (arith, s.size))) (λ k h. by-some c.loop-i.i (f k) c.loop-i.invariant.0)),
+  λ n f before s.
+      let now = c.loop-i.invariant.2 n f before s in
+      let (_, _, whole) = c.requires.0 in
+      let most : n ≤ 128 = omega (arith, few whole c.requires.3) in
+      next-spread now refl most
+      (c.take_off-in-loop-i.ensures n _ (λ k p h small e. e _ (by-some c.loop-i.i (f k) c.loop-i.invariant.0) small refl)
+      (stepping now refl (omega (arith, s.size)))),
 )
 
 pub returns : goal.returns
-returns c f s =
-    let now = spreading f s c.requires.3 (omega (arith, c.requires.4)) c.first.ensures c.loop-i.invariant.2 in
-    all-spread now (le_antisymm c.loop-i.invariant.1 c.loop-i-test.false) refl c.requires.3
-    (c.last.ensures _ now.numbers.patterns (λ k h. by-some c.loop-i.i (f k) c.loop-i.invariant.0))
+returns c n f s =
+    let most = few s c.requires.3 in
+    let now =
+    spreading f s most (omega (arith, most, c.requires.4)) (λ g. c.take_off.ensures n g (λ k p h small e. e _ small refl)) (c.loop-i.invariant.2 n) in
+    all-spread now (le_antisymm c.loop-i.invariant.1 c.loop-i-test.false) refl most
+    (c.last.ensures n _ now.numbers.patterns (λ k h. by-some c.loop-i.i (f k) c.loop-i.invariant.0))

@@ -6,4 +6,4 @@ use Rattle.many_stages.proofs.frame.spread.Given as goal
 abbrev pub invariant-loop-i : goal.invariant-loop-i
 invariant-loop-i l =
     (1 ≤ l.i) × (l.i ≤ l.m)
-    × ((f : ℕ → ℤ) (before : List ℕ) → Spreading l.at l.n f before l.initial.left l.initial.held 1 → Spreading l.at l.n f before l.left l.held l.i)
+    × ((n : ℕ) (f : ℕ → ℤ) (before : List ℕ) → Spreading l.at n f before l.initial.left l.initial.held 1 → Spreading l.at n f before l.left l.held l.i)

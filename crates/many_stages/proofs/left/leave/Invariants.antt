@@ -5,8 +5,8 @@ use Rattle.many_stages.specs.Strips.{Patterned}
 use Rattle.many_stages.proofs.left.leave.Given as goal
 
 abbrev pub invariant-loop-fours : goal.invariant-loop-fours
-invariant-loop-fours l = (f : ℕ → ℤ) → Patterned l.n f l.initial.left → Patterned l.n (λ k. left_ℤ (4 * l._fours) (f k)) l.left
+invariant-loop-fours l = (n : ℕ) (f : ℕ → ℤ) → Patterned n f l.initial.left → Patterned n (λ k. left_ℤ (4 * l._fours) (f k)) l.left
 
 abbrev pub invariant-loop-ones : goal.invariant-loop-ones
 invariant-loop-ones l =
-    (f : ℕ → ℤ) → Patterned l.n f l.fn.left → Patterned l.n (λ k. left_ℤ (4 * (l.fn.stages.count / 4) + l._ones) (f k)) l.left
+    (n : ℕ) (f : ℕ → ℤ) → Patterned n f l.fn.left → Patterned n (λ k. left_ℤ (4 * (l.fn.stages.count / 4) + l._ones) (f k)) l.left

@@ -1,22 +1,25 @@
 -- A turn finds the pattern of a number as it was at the start, and leaves that of what is left of it.
-use Rattle.std.proofs.Common.{arith}
+use Rattle.std.proofs.Common.{◌<◌, arith}
+use Rattle.strips.proofs.EachStage.{none_filled}
 use Rattle.many_stages.proofs.Patterned.{all-taken, more-taken, still}
 use Rattle.many_stages.proofs.left.next.Goals as goal
 
+pub loop-p-init : goal.loop-p-init
+loop-p-init g c h n f e p = none_filled _ _
+
 pub f-requires : goal.f-requires
 f-requires g c =
-    let (h, f, e, p) = c.requires in
-    rw (still p (c.loop-j.invariant.1 h f e p) c.loop-j-test.true) (e.taken (f c.loop-j.j) (p.small c.loop-j.j c.loop-j-test.true))
+    let (h, n, f, e, p) = c.requires in
+    let j = c.loop-p.p-index in
+    let l : j < n = omega (arith, c.loop-p-test.true, p.size) in
+    rw (still p (c.loop-p.invariant h n f e p) l) (e.taken (f j) (p.small j l))
 
-pub loop-j-preserved : goal.loop-j-preserved
-loop-j-preserved g c = (
-  omega arith,
-  λ h f e p.
-      let done = c.loop-j.invariant.1 h f e p in
-      let j = c.loop-j.j in
-      more-taken h p done c.loop-j-test.true
-      (e.made (f j) _ (p.small j c.loop-j-test.true) (rw (← still p done c.loop-j-test.true) c.f.ensures)),
-)
+pub loop-p-preserved : goal.loop-p-preserved
+loop-p-preserved g c h n f e p =
+    let done = c.loop-p.invariant h n f e p in
+    let j = c.loop-p.p-index in
+    let l : j < n = omega (arith, c.loop-p-test.true, p.size) in
+    more-taken h p done l (e.made (f j) _ (p.small j l) (rw (← still p done l) c.f.ensures))
 
 pub returns : goal.returns
-returns g c h f e p = all-taken h e.keeps p (c.loop-j.invariant.1 h f e p) c.loop-j-test.false
+returns g c h n f e p = all-taken h e.keeps p (c.loop-p.invariant h n f e p) (omega (arith, c.loop-p-test.false, p.size))

@@ -1,5 +1,5 @@
 -- A turn adds one number, and the sum of all still fits.
-use Rattle.std.proofs.Common.{◌≡◌, ℕ, ◌+◌, ◌^◌, ◌<◌, ◌≤◌, List, get_or, ℤ, ◌+ℤ◌, arith, w32, SFits, to_z, of_z}
+use Rattle.std.proofs.Common.{◌≡◌, ℕ, ◌+◌, ◌^◌, ◌<◌, ◌≤◌, List, get_or, ℤ, ◌+ℤ◌, ap, ◌∙◌, arith, w32, SFits, to_z, of_z}
 use lib.Signed.{mag}
 use Rattle.signs.proofs.Integers.{fits-as, read_as}
 use Rattle.patterns.specs.Patterns.{raised_of}
@@ -17,23 +17,31 @@ module _ {n j : ℕ} {s r : ℤ} {f : ℕ → ℤ} {left : List ℕ} (p : Patter
   more-fits : SFits w32 (total f (j + 1))
   more-fits = sum_fits f {n = j + 1} (λ k l. p.small k (omega arith)) (omega arith)
 
-pub loop-j-init : goal.loop-j-init
-loop-j-init c = (omega arith, λ f p. no-sum f)
+pub loop-p-init : goal.loop-p-init
+loop-p-init c n f p = no-sum f
+
+pub number-sum-requires : goal.number-sum-requires
+number-sum-requires c =
+    let (n, f, p, few) = c.requires in
+    let j = c.loop-p.p-index in
+    let h : j < n = omega (arith, c.loop-p-test.true, p.size) in
+    (f j, p.small j h, p.at j h)
 
 pub overflow_add-sum : goal.overflow_add-sum
 overflow_add-sum c =
-    let p = c.requires.0.1 in
-    let h = c.loop-j-test.true in
-    let so_far = c.loop-j.invariant.1 _ p in
-    fits-as (more p c.requires.1 h so_far c.number-sum.type_inv c.number-sum.ensures)
-    (more-fits p c.requires.1 h so_far c.number-sum.type_inv c.number-sum.ensures)
+    let (n, f, p, few) = c.requires in
+    let h : c.loop-p.p-index < n = omega (arith, c.loop-p-test.true, p.size) in
+    let so_far = c.loop-p.invariant n f p in
+    fits-as (more p few h so_far c.number-sum.type_inv c.number-sum.ensures) (more-fits p few h so_far c.number-sum.type_inv c.number-sum.ensures)
 
-pub loop-j-preserved : goal.loop-j-preserved
-loop-j-preserved c = (
-  omega arith,
-  λ f p.
-      let h = c.loop-j-test.true in
-      let so_far = c.loop-j.invariant.1 f p in
-      read_as (more p c.requires.1 h so_far c.number-sum.type_inv c.number-sum.ensures)
-      (more-fits p c.requires.1 h so_far c.number-sum.type_inv c.number-sum.ensures),
-)
+pub loop-p-preserved : goal.loop-p-preserved
+loop-p-preserved c n f p =
+    let few : n ≤ 128 = omega (arith, p.size, c.requires.2.size, c.requires.3) in
+    let h : c.loop-p.p-index < n = omega (arith, c.loop-p-test.true, p.size) in
+    let so_far = c.loop-p.invariant n f p in
+    read_as (more p few h so_far c.number-sum.type_inv c.number-sum.ensures) (more-fits p few h so_far c.number-sum.type_inv c.number-sum.ensures)
+
+pub returns : goal.returns
+returns c n f p =
+    let all : c.loop-p.p-index ≡ n = omega (arith, c.loop-p-test.false, p.size) in
+    c.loop-p.invariant n f p ∙ ap (total f) all

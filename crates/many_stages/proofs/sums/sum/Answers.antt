@@ -1,13 +1,14 @@
 -- The patterns are those of the weights, and then of what the stages leave of them; so the two sums are those of the products with their
 -- offsets.
-use Rattle.std.proofs.Common.{◌≡◌, ℕ, ◌≤◌, min, List, length, ℤ, ◌-ℤ◌, ◌∙◌, ap₂, arith, rules, w64, to_z, of_z}
+use Rattle.std.proofs.Common.{◌≡◌, ℕ, ◌≤◌, min, List, length, ℤ, ◌-ℤ◌, ap, ◌∙◌, ap₂, arith, rules, w64, to_z, of_z}
 use Rattle.designs.specs.Designs.{staged}
 use Rattle.designs.specs.Signs.{left_ℤ, signed_product}
 use Rattle.signs.proofs.Integers.{fits-as, read_as, read_back}
 use Rattle.patterns.specs.Blocks.{place}
 use Rattle.blocks.specs.Counts.{total}
 use Rattle.blocks.specs.Residues.{of_pair}
-use Rattle.many_stages.specs.Strips.{Coded, Patterned, Ready, ReadyRests}
+use Rattle.many_stages.specs.Strips.{Coded, excess_of, Patterned, Ready, ReadyRests}
+use Rattle.many_stages.proofs.Patterned.{as-many}
 use Rattle.many_stages.proofs.RowSums.{first_fits, products, residues, sum_fits, sum_is, summed}
 use Rattle.many_stages.proofs.Stages.{short-left}
 use Rattle.many_stages.proofs.sums.sum.Goals as goal
@@ -27,14 +28,16 @@ module _ (row : List ℤ) {s n : ℕ} {part : List ℤ} {left held : List ℕ} (
       }
 
 pub whole-products-requires : goal.whole-products-requires
-whole-products-requires c = (_, _, _, ready c.args.row.now c.requires.0 c.args.stages.many c.fewer-n.ensures (c.raise.ensures (λ z. z) (λ x y small made. search rules)).0)
+whole-products-requires c =
+    (_, _, _, _, ready c.args.row.now c.requires.0 c.args.stages.many c.fewer-n.ensures (as-many (omega (arith, c.excess-over.auto.left, c.fewer-n.ensures, c.requires.0.few)) (c.raise.ensures (λ z. z) (λ x y small made. search rules)).0))
 
 pub leave-requires : goal.leave-requires
-leave-requires c = (_, (c.raise.ensures (λ z. z) (λ x y small made. search rules)).0)
+leave-requires c = (_, _, (c.raise.ensures (λ z. z) (λ x y small made. search rules)).0)
 
 pub rests-residues-requires : goal.rests-residues-requires
 rests-residues-requires c =
-    (_, _, _, rests-ready c.args.row.now c.requires.0 c.args.stages.many c.fewer-n.ensures (c.raise.ensures (λ z. z) (λ x y small made. search rules)).0 (c.leave.ensures _ (c.raise.ensures (λ z. z) (λ x y small made. search rules)).0))
+    let weights : Patterned c.fewer-n.result (place c.args.row.now) c.raise.new.left = (as-many (omega (arith, c.excess-over.auto.left, c.fewer-n.ensures, c.requires.0.few)) (c.raise.ensures (λ z. z) (λ x y small made. search rules)).0) in
+    (_, _, _, _, rests-ready c.args.row.now c.requires.0 c.args.stages.many c.fewer-n.ensures weights (c.leave.ensures _ _ weights))
 
 -- the sums
 module _ (c : goal.After-rests-residues) where
@@ -51,22 +54,22 @@ module _ (c : goal.After-rests-residues) where
   coded = c.requires.0
 
   weights : Patterned c.fewer-n.result (place row) c.raise.new.left
-  weights = (c.raise.ensures (λ z. z) (λ x y small made. search rules)).0
+  weights = as-many (omega (arith, c.excess-over.auto.left, c.fewer-n.ensures, c.requires.0.few)) (c.raise.ensures (λ z. z) (λ x y small made. search rules)).0
 
   less-is : to_z w64 (of_z w64 c.whole-products.result) -ℤ to_z w64 (of_z w64 c.rests-residues.result)
       ≡ products s row part c.fewer-n.ensures weights.small coded.small coded.few
       -ℤ residues s row part c.fewer-n.ensures weights.small coded.small coded.few
   less-is =
-      ap₂ ◌-ℤ◌ (read_back _ c.whole-products.type_inv ∙ c.whole-products.ensures _ _ _ (ready row coded c.args.stages.many c.fewer-n.ensures weights))
+      ap₂ ◌-ℤ◌ (read_back _ c.whole-products.type_inv ∙ c.whole-products.ensures _ _ _ _ (ready row coded c.args.stages.many c.fewer-n.ensures weights))
       (read_back _ c.rests-residues.type_inv
-      ∙ c.rests-residues.ensures _ _ _ (rests-ready row coded c.args.stages.many c.fewer-n.ensures weights (c.leave.ensures _ weights)))
+      ∙ c.rests-residues.ensures _ _ _ _ (rests-ready row coded c.args.stages.many c.fewer-n.ensures weights (c.leave.ensures _ _ weights)))
 
   -- less what the offsets add
   total-is : to_z w64 (of_z w64 (to_z w64 (of_z w64 c.whole-products.result) -ℤ to_z w64 (of_z w64 c.rests-residues.result)))
       -ℤ to_z w64 (of_z w64 c.excess-over.result) ≡ total (of_pair (signed_product (staged s)) row part) c.fewer-n.result
   total-is =
       ap₂ ◌-ℤ◌ (read_as less-is (first_fits s row part c.fewer-n.ensures weights.small coded.small coded.few))
-      (read_back _ c.excess-over.type_inv ∙ c.excess-over.ensures)
+      (read_back _ c.excess-over.type_inv ∙ c.excess-over.ensures ∙ ap (excess_of s (place part)) (omega (arith, c.fewer-n.ensures, c.requires.0.few)))
       ∙ sum_is s row part c.fewer-n.ensures weights.small coded.small coded.few
 
 pub overflow_sub-result : goal.overflow_sub-result

@@ -1,9 +1,0 @@
--- After j turns a power is taken off each of the first j numbers.
-use Rattle.std.proofs.Common.{ℕ, ◌≤◌, ℤ}
-use Rattle.many_stages.specs.Strips.{Stepping}
-use Rattle.many_stages.proofs.Filling.{Taking}
-use Rattle.many_stages.proofs.frame.first.Given as goal
-
-abbrev pub invariant-loop-j : goal.invariant-loop-j
-invariant-loop-j l =
-    (l.j ≤ l.n) × ((f : ℕ → ℤ) → Stepping l.n f l.at l.initial.left l.initial.held → Taking f l.at l.initial.left l.initial.held l.left l.held l.j)
