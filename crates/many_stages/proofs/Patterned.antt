@@ -19,6 +19,7 @@ patterned-as e p =
       at = λ k h. p.at k h ∙ ap raised_of (e k);
     }
 
+-- and of as many
 pub as-many : {n m : ℕ} {f : ℕ → ℤ} {left : List ℕ} → n ≡ m → Patterned n f left → Patterned m f left
 as-many e p = rw (← e) p
 

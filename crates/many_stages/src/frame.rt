@@ -14,7 +14,8 @@ pub(crate) const LOW: usize = 512;
 pub(crate) const LEFT: usize = 1024;
 
 // The codes of the next powers of the numbers, as `power` finds them, at places from `at` on; what the powers leave takes the place of the
-// numbers.
+// numbers. A part of `held` in place of `at` is no plainer: each call would name both its ends, and that a run leaves the places of the runs
+// before, which `spread` needs, would have to be said of the whole all the same.
 fn take_off<F: Fn(u32) -> u32>(at: usize, left: &mut [u32], held: &mut [u32], power: F)
     requires { F.IsAlwaysCallable power × ((n : ℕ) × (f : ℕ → ℤ) × Finding (F.post power) n f × Stepping n f at left.old held.old) }
     ensures { (n : ℕ) (f : ℕ → ℤ) → Finding (F.post power) n f → Stepping n f at left.old held.old → Patterned n (λ k. f k -ℤ next_power (f k)) left.new × Filled at n (λ k. next_power (f k)) held.old held.new }

@@ -15,6 +15,7 @@ spreading {before = before} f s few room first more =
     let none = none-spread s in
     more f before (next-spread none (omega arith) few (first (λ k. left_by 0 (f k)) (stepping none (omega arith) (omega arith))))
 
+-- as many numbers as places
 few : {n : ℕ} {f : ℕ → ℤ} {left : List ℕ} → Short n f left → length left ≤ 128 → n ≤ 128
 few s l = omega (arith, s.patterns.size, l)
 
@@ -46,8 +47,7 @@ loop-i-preserved c = (
   omega arith,
   λ n f before s.
       let now = c.loop-i.invariant.2 n f before s in
-      let (_, _, whole) = c.requires.0 in
-      let most : n ≤ 128 = omega (arith, few whole c.requires.3) in
+      let most : n ≤ 128 = omega (arith, s.numbers.patterns.size, c.take_off.auto.left, c.requires.3) in
       next-spread now refl most
       (c.take_off-in-loop-i.ensures n _ (λ k p h small e. e _ (by-some c.loop-i.i (f k) c.loop-i.invariant.0) small refl)
       (stepping now refl (omega (arith, s.size)))),
