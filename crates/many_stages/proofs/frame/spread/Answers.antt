@@ -30,8 +30,7 @@ take_off-requires-in-loop-i c =
     let (n, f, s) = c.requires.0 in
     let now =
     spreading f s (few s c.requires.3) (omega (arith, few s c.requires.3, c.requires.4)) (λ g. c.take_off.ensures n g (λ k p h small e. e _ small refl))
-    (c.loop-i.invariant.2 n) in
-    (
+    (c.loop-i.invariant.2 n) in (
       search rules,
       (
         _,
