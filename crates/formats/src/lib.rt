@@ -31,6 +31,7 @@ impl Binary32 {
     // The pattern that stands for every NaN, with only the highest bit of its fraction field set.
     pub const NAN: u32 = (Self::NAN_EXPONENT << Self::FRACTION_BITS) + Self::HIDDEN / 2;
 
+    // As the library names it of its own floats, and `to_bits` too.
     pub fn from_bits(bits: u32) -> Self
         ensures { result.bits ≡ bits }
     {

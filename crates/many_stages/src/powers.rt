@@ -73,7 +73,7 @@ pub(crate) fn plus(p: u32, q: u32) -> u32
     f32::to_bits(f32::from_bits(p) + f32::from_bits(q))
 }
 
-// What one stage of design 3 leaves of a number, and what four leave.
+// What one stage of design 3 leaves of a number, and what four leave. That p is the pattern of z is no fact of p alone, and so of no type.
 pub(crate) fn rest(p: u32) -> u32
     requires { (z : ℤ) × (unsigned_abs z ≤ 2 ^ 15) × (p ≡ raised_of z) }
     ensures { (z : ℤ) → unsigned_abs z ≤ 2 ^ 15 → p ≡ raised_of z → result ≡ raised_of (rest_ℤ z) }

@@ -1,6 +1,7 @@
 // What stages of design 3 leave of a block of numbers, one stage over the whole block before the next, so that a stage is vector code
 // for any number of stages. The first is made as the numbers come in. The steps inside take sizes of at most 2^15, which the block keeps;
-// the numbers that come in are any.
+// the numbers that come in are any. A type for such numbers would be put on and taken off at each place of the block, whose
+// places are i32.
 ghost use Rattle.std.specs.Prelude.{◌≡◌, ◌/◌, ◌^◌, ◌≤◌, min, length, unsigned_abs};
 ghost use Rattle.designs.specs.Signs.{left_ℤ, rest_ℤ};
 ghost use Rattle.pairs.specs.Lengths.{pairs_of};
@@ -37,7 +38,8 @@ fn first_rest(stages: u32, x: i32) -> i32
     signed_rest(x)
 }
 
-// What the first of the stages leaves of n weights, and behind them of n numbers of the frame, to the first places of a block.
+// What the first of the stages leaves of n weights, and behind them of n numbers of the frame, to the first places of a block: two runs of
+// places side by side, so that no slice has their length.
 fn begin(stages: u32, n: usize, weights: &[i16], frame: &[i16], block: &mut [i32])
     requires { Room n weights.now frame.now block.old }
     ensures { Left (min stages 1) weights.now frame.now n block.old block.new }

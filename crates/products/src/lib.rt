@@ -28,6 +28,7 @@ pub fn unsigned_product(
     Ok(by_design::product_of(method, a as u32, b as u32))
 }
 
+// Beside the unsigned one, since each of its four calls is another by the type of the numbers.
 // The design's product of two signed numbers of a width: that of their sizes, with a minus sign where their signs differ.
 pub fn signed_product(design: u32, width: u32, setting: u32, a: i64, b: i64) -> Result<i64, Refusal>
     ensures { signed_given result ≡ signed_outcome design width setting a b }

@@ -13,7 +13,7 @@ pub enum Method {
     TwiceTruncated { kept_bits: u32 },
 }
 
-// The design of a number that has been judged, with a setting that has been too.
+// The design of a number that has been judged, with a setting that has been too. The numbers are those of docs/SCOPE.md, and go no further.
 pub(crate) fn method_of(design: u32, setting: u32) -> Method
     ensures { meant result ≡ design_of design setting }
 {

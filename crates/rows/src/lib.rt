@@ -79,7 +79,7 @@ pub fn score_row(
     }
 }
 
-// The same by design 1 alone, Mitchell's, which takes the setting 0.
+// The same by design 1 alone, Mitchell's, which takes the setting 0. C calls this row and the four after it each by its name.
 pub fn score_row_mitchell(
     setting: u32,
     weights: &[i16],

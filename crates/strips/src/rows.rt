@@ -14,7 +14,8 @@ pub fn ahead(at: usize, n: usize, end: usize) -> usize
     at + pairs::fewer(n, end - at)
 }
 
-// What a place counts for, where `from` columns are done.
+// What a place counts for, where `from` columns are done. That of a stage is of another type; a generic one would have to say of any type what
+// its 0 is.
 pub fn so_far(from: usize, score: i64) -> i64
     ensures { result ≡ started from score }
 {

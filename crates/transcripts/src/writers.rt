@@ -30,7 +30,7 @@ impl<'a> Text<'a> {
         }
     }
 
-    // A number in decimal: without its last digit it is n / 10.
+    // A number in decimal: without its last digit it is n / 10. By hand, since the contract of a transcript names each byte of a lent buffer.
     pub(crate) fn put_number(&mut self, n: u64)
         requires { HasRoom self.old (decimal n) }
         ensures { Appended self.old (decimal n) self.new }

@@ -14,6 +14,7 @@ pub fn is_unsigned(fields: &mut Fields) -> Option<bool> {
     Some(is_due(given, fields.number()?, fields.number()?))
 }
 
+// Beside the unsigned ones: the numbers of their fields are read at other types, which the calls say.
 pub fn is_signed(fields: &mut Fields) -> Option<bool> {
     let given = products::signed_product(
         fields.number()?,

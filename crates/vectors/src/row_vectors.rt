@@ -26,7 +26,7 @@ pub fn is_row(alloc: Global, fields: &mut Fields) -> Option<bool> {
     Some(meets(given, &places) && meets(by_itself, &again))
 }
 
-// The row of a design by itself; a number that is no design has none.
+// The row of a design by itself, by the number that a line has; a number that is no design has none.
 fn score_by_itself(
     design: u32,
     setting: u32,
