@@ -19,7 +19,7 @@ loop-p-preserved g c h n f e p =
     let done = c.loop-p.invariant h n f e p in
     let j = c.loop-p.p-index in
     let l : j < n = omega (arith, c.loop-p-test.true, p.size) in
-    more-taken h p done l (e.made (f j) _ (p.small j l) (rw (← still p done l) c.f.ensures))
+    more-taken h {r = c.f.result} p done l (e.made (f j) _ (p.small j l) (rw (← still p done l) c.f.ensures))
 
 pub returns : goal.returns
 returns g c h n f e p = all-taken h e.keeps p (c.loop-p.invariant h n f e p) (omega (arith, c.loop-p-test.false, p.size))
