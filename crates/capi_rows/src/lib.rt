@@ -2,8 +2,7 @@
 // capi that one: so they are in different files of the archive, since each is fastest where the compiler takes its row into it.
 #![tactic(auto)]
 
-ghost use Rattle.rows.specs.Answers.{given};
-ghost use Rattle.capi_rows.specs.Rows.{RowLaid, RowStruct};
+ghost use Rattle.capi_rows.specs.Rows.{RowLaidBy, RowStruct};
 
 // The report stands first, as it is, so that its fields are the struct's own.
 #[repr(C)]
@@ -13,15 +12,15 @@ pub struct ScoredRow {
     pub refusal: u32,
 }
 
-// An answer of a row, laid out for C.
-pub fn laid(answer: Result<rows::RowReport, refusals::Refusal>) -> ScoredRow
-    ensures { RowLaid (given answer) result }
+// An answer of a row, laid out for C. Whatever a refusal is told by becomes its number, and so a number itself is taken too.
+pub fn laid<E: Into<u32>>(answer: Result<rows::RowReport, E>) -> ScoredRow
+    ensures { RowLaidBy (λ e n. E.converts e n) answer result }
 {
     match answer {
         Ok(report) => ScoredRow { report, refusal: 0 },
         Err(refusal) => ScoredRow {
             report: rows::RowReport::empty(),
-            refusal: u32::from(refusal),
+            refusal: refusal.into(),
         },
     }
 }

@@ -5,29 +5,30 @@ use mathlib.Core.Path.{◌≡◌, refl, sym, ap, ◌∙◌, subst}
 use Prim.Native.Nat.{ℕ, zero, suc, ◌≤◌}
 use native.Mathlib.Omega.{arith}
 use mathlib.Core.List.{List, ◌++◌}
-use borrow.Author.Tests.{eqb-true, ltb-false, not-false}
-use mathlib.Core.Bool.{true}
-use lib.Dec.{eqb}
+use borrow.Author.Tests.{eqb-true, lt-leb, ltb-false, not-false}
+use mathlib.Core.Bool.{Bool, true, false, ◌&&◌}
+use lib.Dec.{eqb, leb}
 use lib.IntN.{ℤ}
 use lib.ListN.{length, drop}
 use Rattle.std.specs.Prelude.{Result, Ok, Err}
 use Rattle.std.specs.Result.{IsErrAnd}
 use Rattle.std.proofs.lemmas.Result.{err_from_is_err_and}
 use Rattle.designs.specs.Designs.{Design, Keeps, truncated, twice_truncated}
-use Rattle.designs.specs.Outcomes.{accepted, refused}
+use Rattle.designs.specs.Outcomes.{accepted, refused, first}
 use Rattle.designs.specs.Products.{design_of, is_design, takes_setting}
 use Rattle.designs.specs.Rows.{Report, report, residues}
 use Rattle.designs.specs.Scoring.{row_refusals, row_width, row_refusal, row_outcome, row_written, written_unless}
 use Rattle.designs.specs.Demand.{Demand}
-use Rattle.designs.proofs.Cases.{by-lt}
+use Rattle.designs.proofs.Cases.{by_bool, by-lt, either_lt}
 use Rattle.designs.proofs.Demand.{demand}
 use Rattle.designs.proofs.Refusals.{none, refuses, gives}
 use Rattle.designs.proofs.Settings.{by-design, keeps}
 use Rattle.patterns.specs.Patterns.{clamped}
 use Rattle.patterns.proofs.KeptPatterns.{clamped-is}
-use Rattle.refusals.specs.Methods.{Judged, meant}
+use Rattle.refusals.specs.Methods.{Judged}
 use Rattle.refusals.specs.Refusals.{number}
 use Rattle.refusals.specs.declared.Refusal as R
+use Rattle.refusals.specs.declared.Refusal.TheVariants as V
 use Rattle.refusals.specs.declared.methods.Method.{Method}
 use Rattle.refusals.proofs.Judging.{numbered}
 use Rattle.rows.specs.Answers.{report_of, Ready, Reported, Scoring, Small}
@@ -72,15 +73,18 @@ module _ (design setting : ℕ) (ws fs before : List ℤ) where
   abbrev D : Design
   D = design_of design setting
 
+  abbrev refusal : ℕ
+  refusal = first (row_refusals design setting (length ws) (length fs) (length before))
+
   abbrev pub RowJudged : Result Method R.Refusal → Type 0
   RowJudged = Judged (row_refusals design setting (length ws) (length fs) (length before)) design setting
 
-  refuse : {r : R.Refusal} → RowJudged (Err r) → Scoring design setting ws fs before before (Err r)
+  pub refuse : (r : R.Refusal) → number r ≡ refusal → Scoring design setting ws fs before before (Err r)
   unfolding row_outcome row_written row_refusal
-  refuse {r} judged =
+  refuse r e =
       record {
-        outcome = refuses (report D ws fs) judged.refusal (numbered r);
-        written = kept (number r) (numbered r) ∙ ap (λ (k : ℕ). written_unless k (residues D ws fs) before) judged.refusal;
+        outcome = refuses (report D ws fs) e (numbered r);
+        written = kept (number r) (numbered r) ∙ ap (λ (k : ℕ). written_unless k (residues D ws fs) before) e;
         demand = λ q p. absurd (clash q p);
         small = λ q p. absurd (clash q p);
       }
@@ -94,24 +98,20 @@ module _ (design setting : ℕ) (ws fs before : List ℤ) where
 
   -- the same of what `?` hands on
   pub refused_by : {a : Result RowReport R.Refusal} {r : R.Refusal} → IsErrAnd a (λ e. e ≡ r) → RowJudged (Err r) → Scoring design setting ws fs before before a
-  refused_by {a} is judged = let p = err_from_is_err_and a is in rw (p.1, p.2) (refuse judged)
+  refused_by {a} {r} is judged = let p = err_from_is_err_and a is in rw (p.1, p.2) (refuse r judged.refusal)
 
-  module _ {m : Method} (judged : RowJudged (Ok m)) where
+  module _ (e : 0 ≡ refusal) where
     -- what the tests that were passed say of the design and of its setting
     passed : (is_design design ≡ true) × (takes_setting design row_width setting ≡ true)
     unfolding row_refusals
     passed =
-        let tests = none (row_refusals design setting (length ws) (length fs) (length before)) tt (sym judged.refusal) in
+        let tests = none (row_refusals design setting (length ws) (length fs) (length before)) tt (sym e) in
         (not-false (is_design design) (tests 0), not-false (takes_setting design row_width setting) (tests 1))
-
-    -- the design that was judged
-    pub judged-as : {n : Method} → m ≡ n → meant n ≡ D
-    judged-as is = subst (λ (k : Method). meant k ≡ D) is judged.method
 
     pub ready : Ready D ws fs before
     unfolding row_refusals
     ready =
-        let tests = none (row_refusals design setting (length ws) (length fs) (length before)) tt (sym judged.refusal) in
+        let tests = none (row_refusals design setting (length ws) (length fs) (length before)) tt (sym e) in
         record {
           kept = by-design design row_width setting passed.0 passed.1 (Keeps (λ t. clamped t ≡ t)) tt tt tt (λ h g. (clamped-is setting h g, clamped-is setting h g));
           lengths = eqb-true (length ws) (length fs) (not-false (eqb (length ws) (length fs)) (tests 2));
@@ -123,10 +123,10 @@ module _ (design setting : ℕ) (ws fs before : List ℤ) where
     unfolding row_outcome row_written row_refusal
     score same {after} {r} by_name =
         record {
-          outcome = ap accepted by.is ∙ gives (report D ws fs) judged.refusal refl;
+          outcome = ap accepted by.is ∙ gives (report D ws fs) e refl;
           written =
               by.written ∙ ap (λ (k : ℕ). residues D ws fs ++ drop k before) (sym (residues-length ws fs ready.lengths D))
-              ∙ ap (λ (k : ℕ). written_unless k (residues D ws fs) before) judged.refusal;
+              ∙ ap (λ (k : ℕ). written_unless k (residues D ws fs) before) e;
           demand = λ q p. subst (Demand D ws fs) (sym by.is ∙ given-is q p) (demand D ws fs);
           small = λ q p. subst Small (sym by.is ∙ given-is q p) (small D (keeps design row_width setting passed.0 passed.1) ws fs ready.lengths ready.pairs by.fits);
         }
@@ -136,3 +136,16 @@ module _ (design setting : ℕ) (ws fs before : List ℤ) where
 
         given-is : (q : Report) → accepted (report_of r) ≡ accepted q → report_of r ≡ q
         given-is q p = cc
+
+-- no other number is that of a design
+pub unknown : (design setting : ℕ) {ws fs before : List ℤ} → (design ≡ 1 → ⊥) → (design ≡ 2 → ⊥) → (design ≡ 3 → ⊥) → (design ≡ 4 → ⊥) → (design ≡ 5 → ⊥) → Scoring design setting ws fs before before (Err V.UnknownDesign)
+unfolding row_refusals first
+unknown design setting {ws} {fs} {before} a b c d e = refuse design setting ws fs before V.UnknownDesign first-of-all
+  where
+    none-such : is_design design ≡ false
+    none-such =
+        either_lt 5 design (λ h. by_bool (λ (x : Bool). (x && leb design 5) ≡ false) (leb 1 design) (λ _. lt-leb design 5 h) (λ _. refl))
+        (λ h. let zero : design ≡ 0 = omega arith in rw zero refl)
+
+    first-of-all : 1 ≡ first (row_refusals design setting (length ws) (length fs) (length before))
+    first-of-all = rw none-such refl

@@ -15,7 +15,7 @@ use Rattle.refusals.specs.Refusals.{answer}
 use Rattle.refusals.specs.declared.Refusal.{Refusal}
 use Rattle.singles.specs.Singles.{product_fields, sign_of, single_outcome}
 use Rattle.singles.specs.Meaning.{NearIfNormal}
-use Rattle.singles.specs.Answers.{SingleProduct, as_single, single_given}
+use Rattle.singles.specs.Answers.{SingleProduct, as_single, bits_of, pattern_given, single_given}
 use Rattle.singles.proofs.Rules.{by-rule}
 use Rattle.singles.proofs.Nearness.{fraction-lt, near}
 
@@ -27,6 +27,11 @@ as_pattern (refused n) = refused n
 patterns : (r : Result Float Refusal) → single_given r ≡ as_pattern (answer r)
 patterns (Ok x) = refl
 patterns (Err r) = refl
+
+-- of a product's answer, its pattern gives the outcome that the answer gives
+pub bits-given : (r : Result Float Refusal) → pattern_given (bits_of r) ≡ single_given r
+bits-given (Ok x) = refl
+bits-given (Err r) = refl
 
 module _ (a b : ℕ) where
   given : as_pattern (as_single (single_outcome a b)) ≡ single_outcome a b

@@ -1,5 +1,5 @@
 -- The numbers and values that docs/SCOPE.md gives for each case of the answers, and what is promised of a product. Definitions only.
-use Rattle.std.specs.Prelude.{◌≡◌, ℕ, Result, Float}
+use Rattle.std.specs.Prelude.{◌≡◌, ℕ, Result, Ok, Err, Float}
 use Rattle.std.specs.Float.Ieee.{of_bits, to_bits}
 use Rattle.std.specs.Float.Ieee as Ieee
 use Rattle.designs.specs.Outcomes.{Outcome, accepted, refused}
@@ -15,6 +15,11 @@ single_given = answer_by (to_bits Ieee.binary32)
 
 abbrev pub pattern_given : Result ℕ Refusal → Outcome ℕ
 pattern_given = answer
+
+-- The pattern of an answer's value, in an answer whose refusals are of any type.
+abbrev pub bits_of : {E : Type 0} → Result Float E → Result ℕ E
+bits_of (Ok x) = Ok (to_bits Ieee.binary32 x)
+bits_of (Err e) = Err e
 
 -- an outcome with the binary32 value of its pattern
 abbrev pub as_single : Outcome ℕ → Outcome Float

@@ -7,7 +7,7 @@ ghost use Rattle.designs.specs.Outcomes.{accepted};
 ghost use Rattle.formats.specs.Formats.{binary32, hidden, largest_exponent, pattern};
 ghost use Rattle.refusals.specs.Refusals.{answer};
 ghost use Rattle.singles.specs.Singles.{product_fields, result_outcome};
-ghost use Rattle.singles.specs.Answers.{SingleProduct, as_single, pattern_given, single_given};
+ghost use Rattle.singles.specs.Answers.{SingleProduct, as_single, bits_of};
 
 use formats::Binary32;
 use refusals::Refusal;
@@ -38,10 +38,10 @@ pub fn single_product(a: u32, b: u32) -> Result<f32, Refusal>
     normal_product(minus, x, y)
 }
 
-// The pattern of an answer's value, the sign of a zero included. A product is never a NaN; for a caller's own NaN one pattern
-// stands for all.
-pub fn bits(answer: Result<f32, Refusal>) -> Result<u32, Refusal>
-    ensures { pattern_given result ≡ single_given answer }
+// The pattern of an answer's value, the sign of a zero included; a refusal is handed on, whatever it is told by. A product is never a NaN; for
+// a caller's own NaN one pattern stands for all.
+pub fn bits<E>(answer: Result<f32, E>) -> Result<u32, E>
+    ensures { result ≡ bits_of answer }
 {
     let x = answer?;
     if x.is_nan() {

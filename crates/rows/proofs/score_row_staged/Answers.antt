@@ -7,7 +7,7 @@ pub returns-in_err-of_row : goal.returns-in_err-of_row
 returns-in_err-of_row c = refused_by 3 _ _ _ _ c.from_residual.ensures.1 c.in_err-of_row.ensures
 
 pub report-requires : goal.report-requires
-report-requires c = ready 3 _ _ _ _ c.in_ok-of_row.ensures
+report-requires c = ready 3 _ _ _ _ c.in_ok-of_row.ensures.refusal
 
 pub returns : goal.returns
-returns c = score 3 _ _ _ _ c.in_ok-of_row.ensures refl c.report.ensures
+returns c = score 3 _ _ _ _ c.in_ok-of_row.ensures.refusal refl c.report.ensures

@@ -7,7 +7,7 @@ pub returns-in_err-of_row : goal.returns-in_err-of_row
 returns-in_err-of_row c = refused_by 5 _ _ _ _ c.from_residual.ensures.1 c.in_err-of_row.ensures
 
 pub report-requires : goal.report-requires
-report-requires c = let row = ready 5 _ _ _ _ c.in_ok-of_row.ensures in named (twice-truncated-as refl row) row
+report-requires c = let row = ready 5 _ _ _ _ c.in_ok-of_row.ensures.refusal in named (twice-truncated-as refl row) row
 
 pub returns : goal.returns
-returns c = let judged = c.in_ok-of_row.ensures in score 5 _ _ _ _ judged (twice-truncated-as refl (ready 5 _ _ _ _ judged)) c.report.ensures
+returns c = let judged = c.in_ok-of_row.ensures.refusal in score 5 _ _ _ _ judged (twice-truncated-as refl (ready 5 _ _ _ _ judged)) c.report.ensures

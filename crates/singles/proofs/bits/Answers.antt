@@ -2,8 +2,8 @@
 use mathlib.Core.Path.{◌≡◌, refl, sym, ap, ◌∙◌}
 use mathlib.Core.Bool.{true, false≢true}
 use lib.Ieee.{Float, binary32, fin, inf, is_nan, nan, to_bits}
-use Rattle.designs.specs.Outcomes.{accepted}
-use Rattle.singles.specs.Answers.{single_given}
+use Rattle.std.specs.Prelude.{ℕ, Result, Ok}
+use Rattle.singles.specs.Answers.{bits_of}
 use Rattle.singles.proofs.bits.Goals as goal
 
 is-nan : (x : Float) → true ≡ is_nan x → nan ≡ x
@@ -12,8 +12,13 @@ is-nan nan e = refl
 is-nan (inf s) e = absurd (false≢true (sym e))
 is-nan (fin s m e) q = absurd (false≢true (sym q))
 
+module _ {E : Type 0} where
+  abbrev given : ℕ → Result ℕ E
+  given p = Ok p
+
+  nan-pattern : (x : Float) {p : ℕ} → p ≡ to_bits binary32 nan → true ≡ is_nan x → given p ≡ given (to_bits binary32 x)
+  nan-pattern x e is = ap given (e ∙ ap (to_bits binary32) (is-nan x is))
+
 pub returns-then-is_nan : goal.returns-then-is_nan
 unfolding to_bits
-returns-then-is_nan c =
-    ap accepted (c.to_bits.ensures ∙ c.nan-nan.ensures)
-    ∙ ap (λ (v : Float). accepted (to_bits binary32 v)) (is-nan c.in_ok-x.x c.if-is_nan.ensures.value) ∙ sym (ap single_given c.in_ok-x.was)
+returns-then-is_nan g c = nan-pattern {E = g.row.E.Denot} c.in_ok-x.x (c.to_bits.ensures ∙ c.nan-nan.ensures) c.if-is_nan.ensures.value ∙ sym (ap bits_of c.in_ok-x.was)
