@@ -1,5 +1,5 @@
 pub mod Unique
 pub mod Quotient
 pub mod Division
-pub mod CastExact
+pub mod SizeTests
 pub mod ScaledOutcome

@@ -8,7 +8,7 @@ use Rattle.designs.proofs.Parts.{one_shifted}
 use Rattle.scaling.proofs.Division.{division}
 use Rattle.scaling.proofs.ScaledOutcome.{by-shift, by-score, by-sum, by_values}
 use Rattle.scaling.proofs.Quotient.{quotient-exact}
-use Rattle.scaling.proofs.CastExact.{cast-exact}
+use Rattle.scaling.proofs.SizeTests.{cast-exact}
 use Rattle.scaling.proofs.scale.Goals as goal
 use Rattle.scaling.proofs.scale.Goals.{After-unsigned_abs}
 
