@@ -13,7 +13,7 @@ pub use methods::Method;
 pub use products::{is_design, is_width, of_operands, of_setting, takes_setting};
 pub use rows::{of_design, of_row};
 
-// Why a call is refused. The number of each stands beside it; the C header has it under the same name.
+// Why a call is refused. The number of each stands beside it; the C header has it under the same name in capitals.
 #[derive(Clone, Copy, Debug, PartialEq, Eq)]
 pub enum Refusal {
     // Products; a row has the first and the third of these too.
