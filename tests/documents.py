@@ -59,7 +59,10 @@ def is_in_source(crate, *names):
     name = re.escape(names[-1])
     # handed on alone, or as one of the names in braces
     handed_on = rf'^pub use [\w:]+::(?:{name}|\{{(?:[^{{}}]*,)?\s*{name}\s*(?:,[^{{}}]*)?\}});'
-    return bool(re.search(rf'\b(?:fn|const|struct|enum|trait|type|mod) {name}\b|^ +{name}(?: = \d+)?,$|{handed_on}', source, re.M))
+    # a variant, which stands in an enum alone: a line of a call or of a literal looks the same
+    variants = ''.join(blocks(r'pub enum \w+', source))
+    return bool(re.search(rf'\b(?:fn|const|struct|enum|trait|type|mod) {name}\b|{handed_on}', source, re.M)
+                or re.search(rf'^ +{name}(?: = \d+)?,$', variants, re.M))
 
 
 def is_path(word):
@@ -137,7 +140,7 @@ def check_citations(place, cell, cited):
             context = (is_in_source, *parts[:-1])
             if parts[0] not in CRATES or not is_in_source(*parts):
                 report(place, f'no source has {word}')
-            cited.add((parts[0], parts[-1]))
+            cited.update({(parts[0], parts[-1]), (parts[0], '::'.join(parts[-2:]))})
         elif len(parts) > 1:
             context = (is_defined, crate, parts[0])
             if not is_defined(crate, *parts):
@@ -150,6 +153,14 @@ def check_citations(place, cell, cited):
                 report(place, f'{" ".join(names)} has no {word}')
             if is_known is is_in_source:
                 cited.add((names[0], word))
+
+
+def public_traits(crate, path):
+    """The traits of a file that other crates can name; their functions are as public as they are."""
+    root, found = text(f'crates/{crate}/src/lib.rt'), re.findall(r'^pub trait (\w+)', path.read_text(), re.M)
+    if path.stem == 'lib' or re.search(rf'^pub mod {path.stem};', root, re.M):
+        return found
+    return [trait for trait in found if re.search(rf'^pub use [\w:]*\{{?[^;]*\b{trait}\b', root, re.M)]
 
 
 def check_trace():
@@ -167,17 +178,20 @@ def check_trace():
     for edit in sorted(EDITS - guarded):
         report(TRACE, f'the edit {edit} is not cited')
     for path in sorted(ROOT.glob('crates/*/src/*.rt')):
-        crate = path.parent.parent.name
+        crate, source = path.parent.parent.name, path.read_text()
         if not text(f'crates/{crate}/src/lib.rt'):
             continue
-        # a trait's functions are as public as it is
-        traits = [re.findall(r'^    fn (\w+)(.*?);$', each, re.M | re.S) for each in blocks('pub trait', path.read_text())]
-        functions = re.findall(r'^ *pub (?:extern "C" )?fn (\w+)(.*?)^ *\{', path.read_text(), re.M | re.S)
-        for name, contract in [*functions, *(each for trait in traits for each in trait)]:
+        functions = re.findall(r'^ *pub (?:extern "C" )?fn (\w+)(.*?)^ *\{', source, re.M | re.S)
+        for trait in public_traits(crate, path):
+            found = re.findall(r'^    fn (\w+)(.*?)[;{]$', ''.join(blocks(rf'pub trait {trait}\b', source)), re.M | re.S)
+            functions += [(f'{trait}::{name}', contract) for name, contract in found]
+        for name, contract in functions:
             if (crate, name) not in cited:
                 report(TRACE, f'the public function {crate}::{name} is not cited')
             if 'ensures' not in contract:
                 report(path.relative_to(ROOT), f'{name} is public and has no contract')
+            if 'requires' in contract:
+                report(path.relative_to(ROOT), f'{name} is public and asks something of who calls it')
 
 
 check_examples()
