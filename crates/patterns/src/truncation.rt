@@ -1,4 +1,4 @@
-// Patterns with t bits of the fraction, and the carry of design 4.
+// Patterns with the kept bits of the fraction alone, and the carry of design 4.
 ghost use Rattle.std.specs.Prelude.{◌≡◌, ◌+◌, ◌-◌, ◌*◌, ◌%◌, ◌^◌, ◌≤◌, if◌then◌else◌, bit_and, nat_lt};
 ghost use Rattle.patterns.specs.Patterns.{carried_of, clamped};
 
@@ -42,8 +42,8 @@ impl KeptBits {
         p & (u32::MAX - self.last_place() + 1)
     }
 
-    // A sum of two patterns with t kept bits, with its carry. Below 2^t nothing was cut, so the number is whole, and the carry would add less
-    // than 1 to it, which the design rounds down.
+    // A sum of two such patterns with its carry. Below 2^count nothing was cut, so the number is whole, and the carry would add less than 1 to
+    // it, which the design rounds down.
     pub(crate) fn with_carry(self, sum: u32) -> u32
         ensures { result ≡ carried_of self.count sum }
     {

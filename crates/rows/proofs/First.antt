@@ -37,7 +37,7 @@ module _ {block : List ℤ} {size : ℕ} where
     has-not : (nat_abs (place block j) ≡ size → ⊥) → First block size (j + 1) (min p 64)
     has-not ne = let same : min p 64 ≡ p = omega (arith, so_far.inside) in rw same (kept (λ m. ne))
 
-    next : First block size (j + 1) (min p (cond (eqb (nat_abs (place block j)) size) j 64))
+    pub next : First block size (j + 1) (min p (cond (eqb (nat_abs (place block j)) size) j 64))
     next =
         by_bool (λ b. First block size (j + 1) (min p (cond b j 64))) (eqb (nat_abs (place block j)) size) (λ t. has (eqb-true _ _ t)) (λ t. has-not (eqb-false _ _ t))
 

@@ -69,6 +69,11 @@ module _ {D : Design} {ws fs before : List ℤ} (ready : Ready D ws fs before) w
           fits = all.truth.fits;
         }
 
+  -- the same with what its loops give, of which the second goes on from what the first reached
+  pub by_parts : {mid after : List ℤ} {to : ℕ} {so_far s : Sums} {r : RowReport} → Going D ws fs before mid to so_far
+      → ((places : List ℤ) → Ongoing D ws fs places mid to so_far → Complete D ws fs places after s) → report_of r ≡ report_by s (length ws) → Reported D ws fs before after r
+  by_parts blocks others by = reported (others before (goes_on blocks)) by
+
 module _ (design setting : ℕ) (ws fs before : List ℤ) where
   abbrev D : Design
   D = design_of design setting
