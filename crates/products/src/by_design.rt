@@ -1,39 +1,33 @@
-// The product by the number of a design, for numbers that have been judged.
+// The product by a design, for numbers that have been judged.
 ghost use Rattle.std.specs.Prelude.{◌≡◌, ◌^◌, ◌<◌};
 ghost use Rattle.designs.specs.Designs.{product};
-ghost use Rattle.designs.specs.Products.{design_of};
 ghost use Rattle.designs.specs.Signs.{signed_product, with_sign};
 ghost use Rattle.kernels.specs.Steps.{served};
+ghost use Rattle.refusals.specs.Methods.{meant};
 ghost use Rattle.products.specs.Signable.{Signable};
 
-// The product of two magnitudes; designs 4 and 5 keep at most 31 bits. The number of the design chooses at once: by the `Method` that it was
-// judged to, an unsigned product of design 1 takes an eighth more time.
-pub(crate) fn product_of(design: u32, setting: u32, a: u32, b: u32) -> u64
-    ensures { result ≡ product (served (design_of design setting)) a b }
+use refusals::Method;
+
+// The product of two magnitudes; designs 4 and 5 keep at most 31 bits.
+pub(crate) fn product_of(method: Method, a: u32, b: u32) -> u64
+    ensures { result ≡ product (served (meant method)) a b }
 {
-    if design == 1 {
-        return kernels::mitchell(a, b);
+    match method {
+        Method::Mitchell => kernels::mitchell(a, b),
+        Method::Nearest => kernels::nearest(a, b),
+        Method::Staged { stages } => kernels::staged(stages, a, b),
+        Method::Truncated { kept_bits } => kernels::truncated(kept_bits, a, b),
+        Method::TwiceTruncated { kept_bits } => kernels::twice_truncated(kept_bits, a, b),
     }
-    if design == 2 {
-        return kernels::nearest(a, b);
-    }
-    if design == 3 {
-        return kernels::staged(setting, a, b);
-    }
-    if design == 4 {
-        return kernels::truncated(setting, a, b);
-    }
-    kernels::twice_truncated(setting, a, b)
 }
 
 // The signed product of two numbers of at most 32 bits, where it fits.
-pub(crate) fn signed_of(design: u32, setting: u32, a: i64, b: i64) -> i64
-    requires { Signable (served (design_of design setting)) a b }
-    ensures { result ≡ signed_product (served (design_of design setting)) a b }
+pub(crate) fn signed_of(method: Method, a: i64, b: i64) -> i64
+    requires { Signable (served (meant method)) a b }
+    ensures { result ≡ signed_product (served (meant method)) a b }
 {
     let size = product_of(
-        design,
-        setting,
+        method,
         signs::magnitude(a) as u32,
         signs::magnitude(b) as u32,
     );

@@ -22,11 +22,11 @@ pub fn unsigned_product(
 ) -> Result<u64, Refusal>
     ensures { unsigned_given result ≡ unsigned_outcome design width setting a b }
 {
-    refusals::of_setting(design, width, setting)?;
+    let method = refusals::of_setting(design, width, setting)?;
     let a_inside = operands::inside_unsigned(width, a);
     let b_inside = operands::inside_unsigned(width, b);
     refusals::of_operands(a_inside, b_inside)?;
-    Ok(by_design::product_of(design, setting, a as u32, b as u32))
+    Ok(by_design::product_of(method, a as u32, b as u32))
 }
 
 // The design's product of two signed numbers of a width: that of their sizes, with a minus sign where their signs differ. By the type of the
@@ -34,9 +34,9 @@ pub fn unsigned_product(
 pub fn signed_product(design: u32, width: u32, setting: u32, a: i64, b: i64) -> Result<i64, Refusal>
     ensures { signed_given result ≡ signed_outcome design width setting a b }
 {
-    refusals::of_setting(design, width, setting)?;
+    let method = refusals::of_setting(design, width, setting)?;
     let a_inside = operands::inside_signed(width, a);
     let b_inside = operands::inside_signed(width, b);
     refusals::of_operands(a_inside, b_inside)?;
-    Ok(by_design::signed_of(design, setting, a, b))
+    Ok(by_design::signed_of(method, a, b))
 }
