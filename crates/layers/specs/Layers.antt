@@ -5,11 +5,13 @@ use Rattle.designs.specs.Outcomes.{Outcome, Refusal, ◌when◌, first, unless_r
 use Rattle.designs.specs.Products.{design_of}
 use Rattle.designs.specs.Rows.{report}
 use Rattle.designs.specs.Scoring.{design_refusals, lengths_differ, written_unless}
+use Rattle.refusals.specs.Refusals.{number}
+use Rattle.refusals.specs.declared.Refusal.TheVariants as R
 use Rattle.stores.specs.Stores.{shape_refusals}
 
 -- The refusal of a layer by the places for its scores.
 abbrev pub scores_too_short : ℕ → ℕ → Refusal
-scores_too_short places rows = 21 when ltb places rows
+scores_too_short places rows = number R.ScoresTooShort when ltb places rows
 
 -- In order: those of the design and its setting, those of the store's shape, that of the frame, and that of the places.
 unfoldable pub layer_refusals : ℕ → ℕ → ℕ → ℕ → ℕ → ℕ → List Refusal

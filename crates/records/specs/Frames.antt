@@ -1,6 +1,8 @@
 -- Which bytes at the start of an input are its first record, with nothing computed (docs/SCOPE.md, "Reading records"). Definitions only.
 use Rattle.std.specs.Prelude.{ℕ, zero, suc, ◌+◌, List, [], ◌∷◌, leb, length, get_or}
 use Rattle.designs.specs.Outcomes.{Refusal, ◌when◌, first}
+use Rattle.refusals.specs.Refusals.{number}
+use Rattle.refusals.specs.declared.Refusal.TheVariants as R
 use Rattle.records.specs.Kinds.{kind_of, unknown_kind}
 
 -- A framed record: its kind's number, the refusal of the reading or 0, and how many bytes it takes.
@@ -11,7 +13,7 @@ pub record Frame : Type 0 where
 
 -- 18 where the input ends before the body does: of the bytes that are left, the first is the kind's.
 abbrev pub cut_short : ℕ → ℕ → Refusal
-cut_short body left = 18 when leb left body
+cut_short body left = number R.CutShort when leb left body
 
 -- In order: the kind is unknown; the body is cut short.
 unfoldable pub reading_refusals : ℕ → ℕ → List Refusal

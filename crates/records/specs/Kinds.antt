@@ -4,6 +4,8 @@ use Rattle.std.specs.Prelude.{ℕ, cond, List, [], ◌∷◌, eqb, ℤ, pos}
 use Rattle.designs.specs.Designs.{mitchell, product}
 use Rattle.designs.specs.Outcomes.{Outcome, accepted, refused, Refusal, ◌when◌}
 use Rattle.designs.specs.Products.{signed_outcome}
+use Rattle.refusals.specs.Refusals.{number as number_of}
+use Rattle.refusals.specs.declared.Refusal.TheVariants as R
 use Rattle.singles.specs.Singles.{single_outcome}
 use Rattle.records.specs.Fields.{field8, field16, field32, signed}
 
@@ -39,7 +41,7 @@ kinds =
 
 -- 17 for a kind without a body, which no kind of the list is.
 abbrev pub unknown_kind : ℕ → Refusal
-unknown_kind body = 17 when eqb body 0
+unknown_kind body = number_of R.UnknownKind when eqb body 0
 
 -- What stands for the kind of a number that none of them has: it has no body.
 abbrev pub unknown : Kind

@@ -1,18 +1,21 @@
 -- The number that docs/SCOPE.md gives each refusal, and what a result says of an operation. Definitions only.
-use Rattle.std.specs.Prelude.{ℕ, Result, Ok, Err}
+use Rattle.std.specs.Prelude.{ℕ, false, Result, Ok, Err}
 use Rattle.designs.specs.Outcomes.{Outcome, accepted, refused}
+use Rattle.designs.specs.Products.{unknown_design, unknown_width, setting_out_of_range, first_outside_width, second_outside_width}
+use Rattle.designs.specs.Scoring.{lengths_differ, too_many_pairs, residues_too_short}
 use Rattle.refusals.specs.declared.Refusal.{Refusal}
 use Rattle.refusals.specs.declared.Refusal.TheVariants as R
 
+-- Those of products and rows stand at their definitions, whatever the test finds; the definitions of the others cite theirs from here.
 abbrev pub number : Refusal → ℕ
-number R.UnknownDesign = 1
-number R.UnknownWidth = 2
-number R.SettingOutOfRange = 3
-number R.FirstOperandOutsideWidth = 4
-number R.SecondOperandOutsideWidth = 20
-number R.LengthsDiffer = 5
-number R.TooManyPairs = 6
-number R.ResiduesTooShort = 7
+number R.UnknownDesign = (unknown_design 0).number
+number R.UnknownWidth = (unknown_width 0).number
+number R.SettingOutOfRange = (setting_out_of_range 0 0 0).number
+number R.FirstOperandOutsideWidth = (first_outside_width false).number
+number R.SecondOperandOutsideWidth = (second_outside_width false).number
+number R.LengthsDiffer = (lengths_differ 0 0).number
+number R.TooManyPairs = (too_many_pairs 0).number
+number R.ResiduesTooShort = (residues_too_short 0 0).number
 number R.NotFinite = 8
 number R.Subnormal = 9
 number R.ExponentTooLarge = 10

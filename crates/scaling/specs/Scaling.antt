@@ -3,8 +3,9 @@ use Rattle.std.specs.Prelude.{ℕ, ◌^◌, ◌||◌, List, [], ◌∷◌, ltb, 
 use Rattle.designs.specs.Outcomes.{Outcome, accepted, refused, Refusal, ◌when◌, first, unless_refused}
 use Rattle.scaling.specs.Quotient.{quotient, Exact}
 use Rattle.scaling.specs.declared.Quotients.{Quotients}
-use Rattle.refusals.specs.Refusals.{answer}
+use Rattle.refusals.specs.Refusals.{answer, number}
 use Rattle.refusals.specs.declared.Refusal as D
+use Rattle.refusals.specs.declared.Refusal.TheVariants as R
 
 -- The outcome that an answer is.
 abbrev pub scaled_given : Result Quotients D.Refusal → Outcome Quotients
@@ -12,10 +13,10 @@ scaled_given = answer
 
 -- The refusals, in order.
 abbrev pub shift_too_large : ℕ → Refusal
-shift_too_large shift = 15 when ltb 40 shift
+shift_too_large shift = number R.ShiftTooLarge when ltb 40 shift
 
 abbrev pub size_too_large : ℤ → ℕ → Refusal
-size_too_large score magnitude_sum = 16 when (ltb (2 ^ 53) (nat_abs score) || ltb (2 ^ 53) magnitude_sum)
+size_too_large score magnitude_sum = number R.SizeTooLarge when (ltb (2 ^ 53) (nat_abs score) || ltb (2 ^ 53) magnitude_sum)
 
 abbrev pub refusals : ℤ → ℕ → ℕ → List Refusal
 refusals score magnitude_sum shift = shift_too_large shift ∷ size_too_large score magnitude_sum ∷ []

@@ -2,6 +2,8 @@
 use Rattle.std.specs.Prelude.{ℕ, ◌+◌, ◌-◌, Bool, not, ◌&&◌, ◌||◌, cond, List, [], ◌∷◌, ltb}
 use Rattle.std.specs.Float.Ieee.{unlike}
 use Rattle.designs.specs.Outcomes.{Outcome, accepted, Refusal, ◌when◌, first, otherwise, unless_refused}
+use Rattle.refusals.specs.Refusals.{number}
+use Rattle.refusals.specs.declared.Refusal.TheVariants as R
 use Rattle.formats.specs.Formats.{Format, binary32, exponent_field, fraction_field, hidden, is_finite, is_minus, is_subnormal, is_zero, largest_exponent, pattern}
 
 -- The exponent field and the fraction field of a result.
@@ -27,16 +29,16 @@ module _ (f : Format) where
 
   -- The refusals of a product: those of its operands, and those of its result by the exponent field that it would have.
   abbrev pub not_finite : ℕ → ℕ → Refusal
-  not_finite a b = 8 when not (is_finite f a && is_finite f b)
+  not_finite a b = number R.NotFinite when not (is_finite f a && is_finite f b)
 
   abbrev pub subnormal : ℕ → ℕ → Refusal
-  subnormal a b = 9 when (is_subnormal f a || is_subnormal f b)
+  subnormal a b = number R.Subnormal when (is_subnormal f a || is_subnormal f b)
 
   abbrev pub exponent_too_large : ℕ → Refusal
-  exponent_too_large E = 10 when ltb (largest_exponent f) E
+  exponent_too_large E = number R.ExponentTooLarge when ltb (largest_exponent f) E
 
   abbrev pub exponent_too_small : ℕ → Refusal
-  exponent_too_small E = 11 when ltb E 1
+  exponent_too_small E = number R.ExponentTooSmall when ltb E 1
 
   -- In order.
   unfoldable pub operand_refusals : ℕ → ℕ → List Refusal

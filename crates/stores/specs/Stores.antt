@@ -2,16 +2,18 @@
 -- next row right after the one before it, all of one length, the columns. Definitions only.
 use Rattle.std.specs.Prelude.{ℕ, ◌*◌, ◌/◌, ◌%◌, not, ◌||◌, cond, List, [], ◌∷◌, ◌++◌, eqb, ltb}
 use Rattle.designs.specs.Outcomes.{Refusal, ◌when◌, first}
+use Rattle.refusals.specs.Refusals.{number}
+use Rattle.refusals.specs.declared.Refusal.TheVariants as R
 
 -- The refusals of a row of a store.
 abbrev pub columns_out_of_range : ℕ → Refusal
-columns_out_of_range columns = 12 when (eqb columns 0 || ltb 4096 columns)
+columns_out_of_range columns = number R.ColumnsOutOfRange when (eqb columns 0 || ltb 4096 columns)
 
 abbrev pub uneven_store : ℕ → ℕ → Refusal
-uneven_store length columns = 13 when not (eqb (length % columns) 0)
+uneven_store length columns = number R.UnevenStore when not (eqb (length % columns) 0)
 
 abbrev pub no_such_row : ℕ → ℕ → ℕ → Refusal
-no_such_row length columns row = 14 when not (ltb row (length / columns))
+no_such_row length columns row = number R.NoSuchRow when not (ltb row (length / columns))
 
 -- In order: those of the store's shape, whatever is asked of it, and that of the row.
 abbrev pub shape_refusals : ℕ → ℕ → List Refusal

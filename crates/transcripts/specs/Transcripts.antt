@@ -1,6 +1,8 @@
 -- The transcript of an input (docs/SCOPE.md, "Reading records"), and what a buffer holds once it is written. Definitions only.
 use Rattle.std.specs.Prelude.{◌≡◌, ℕ, zero, suc, ◌≤◌, List, [], ◌∷◌, ltb, length, take, drop}
 use Rattle.designs.specs.Outcomes.{refused, Refusal, ◌when◌, first}
+use Rattle.refusals.specs.Refusals.{number}
+use Rattle.refusals.specs.declared.Refusal.TheVariants as R
 use Rattle.records.specs.Records.{Record, records_of}
 use Rattle.transcripts.specs.Text.{decimal, signed_decimal}
 use Rattle.transcripts.specs.Lines.{none, outcome_text, line, total_line, printed}
@@ -11,7 +13,7 @@ input_most = 65536
 
 -- 19 for an input that has more.
 abbrev pub input_too_long : ℕ → Refusal
-input_too_long bytes = 19 when ltb input_most bytes
+input_too_long bytes = number R.InputTooLong when ltb input_most bytes
 
 -- An input that is refused is not read: it stands as one record of kind 0 with that refusal.
 abbrev pub unread : ℕ → List Record
