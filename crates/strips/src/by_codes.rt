@@ -6,7 +6,7 @@ ghost use Rattle.strips.specs.Strips.{Summed};
 
 use crate::{InStrips, STRIP, rows};
 
-// What these two ask of a part and of its codes, `take` below meets, so that no caller outside has to.
+// For this crate alone: what `code` and `sum` ask of a part and of its codes, `take` below meets.
 pub trait ByCodes: Copy {
     type Codes: Default + Drop;
 
