@@ -1,6 +1,6 @@
--- The outcome of a layer, by the number n that its judgement gives. A refused layer leaves every place. Of an accepted one no test applied, so
--- that each row has as many weights as the frame has numbers; the sums that the blocks leave in the first places are then the scores of
--- the rows alone, of which the third demand holds.
+-- The outcome of a layer, by what its judgement gives: its refusal, or that none applied. A refused layer leaves every place. Of an accepted one
+-- each row has as many weights as the frame has numbers; the sums that the blocks leave in the first places are then the scores of the rows
+-- alone, of which the third demand holds.
 use mathlib.Core.Path.{◌≡◌, refl, sym, ap, ap₂, ◌∙◌, subst}
 use mathlib.Core.List.{List, [], ◌∷◌, ◌++◌}
 use Prim.Native.Nat.{ℕ, zero, suc, ◌+◌, ◌*◌, ◌/◌, ◌≤◌, ◌<◌}

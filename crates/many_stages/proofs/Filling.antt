@@ -40,7 +40,7 @@ none-taken = record { rests = each.none_filled _ _; codes = none-coded }
 module _ {n : ℕ} {f : ℕ → ℤ} {at : ℕ} {left₀ held₀ : List ℕ} (s : Stepping n f at left₀ held₀) {left held : List ℕ} {j : ℕ} (t : Taking f at left₀ held₀ left held j) where
   module _ (h : j < n) where
     pub in_left : j < length left
-    in_left = omega (arith, s.numbers.patterns.size, t.rests.size)
+    in_left = omega (arith, s.numbers.patterns.room, t.rests.size)
 
     pub in_held : at + j < length held
     in_held = omega (arith, s.places, t.codes.size)
@@ -61,14 +61,14 @@ module _ {n : ℕ} {f : ℕ → ℤ} {at : ℕ} {left₀ held₀ : List ℕ} (s 
     pub next-taken : {p v : ℕ} → v ≡ code_of (next_power (f j)) → p ≡ raised_of (f j -ℤ next_power (f j)) → Taking f at left₀ held₀ (set left j p) (set held (at + j) v) (j + 1)
     next-taken ev ep =
         record {
-          rests = each.next-filled t.rests (omega (arith, s.numbers.patterns.size)) ep;
+          rests = each.next-filled t.rests (omega (arith, s.numbers.patterns.room)) ep;
           codes = next-coded t.codes (omega (arith, s.places)) ev;
         }
 
   pub powers-taken : n ≤ j → Patterned n (λ k. f k -ℤ next_power (f k)) left × Filled at n (λ k. next_power (f k)) held₀ held
   powers-taken h = (
     record {
-      size = omega (arith, s.numbers.patterns.size, t.rests.size);
+      room = omega (arith, s.numbers.patterns.room, t.rests.size);
       small = λ k l. mag-size (f k -ℤ next_power (f k)) (omega (arith, left-short (f k) (s.numbers.short k l)));
       at = λ k l. t.rests.first k (omega arith);
     },

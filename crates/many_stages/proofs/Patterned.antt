@@ -14,7 +14,7 @@ use Rattle.many_stages.specs.Strips.{Leaving, Patterned}
 pub patterned-as : {n : ℕ} {f g : ℕ → ℤ} {left : List ℕ} → ((k : ℕ) → f k ≡ g k) → Patterned n f left → Patterned n g left
 patterned-as e p =
     record {
-      size = p.size;
+      room = p.room;
       small = λ k h. rw (← e k) (p.small k h);
       at = λ k h. p.at k h ∙ ap raised_of (e k);
     }
@@ -33,7 +33,7 @@ module _ {n : ℕ} {f : ℕ → ℤ} {before : List ℕ} where
   pub none-raised : Raising n f before before 0
   none-raised = record { inside = omega arith; done = none_filled _ _; small = λ k h. absurd (omega arith) }
 
-  pub next-raised : {left : List ℕ} {j p : ℕ} → Raising n f before left j → j < n → n ≡ length before → mag (f j) < 2 ^ 15 → p ≡ raised_of (f j) → Raising n f before (set left j p) (j + 1)
+  pub next-raised : {left : List ℕ} {j p : ℕ} → Raising n f before left j → j < n → n ≤ length before → mag (f j) < 2 ^ 15 → p ≡ raised_of (f j) → Raising n f before (set left j p) (j + 1)
   next-raised r h room fits e =
       record {
         inside = omega arith;
@@ -41,13 +41,13 @@ module _ {n : ℕ} {f : ℕ → ℤ} {before : List ℕ} where
         small = below_more _ _ r.small fits;
       }
 
-  pub all-raised : {left : List ℕ} {j : ℕ} → Raising n f before left j → n ≤ j → n ≡ length before → Patterned n f left
+  pub all-raised : {left : List ℕ} {j : ℕ} → Raising n f before left j → n ≤ j → n ≤ length before → Patterned n f left
   all-raised r h room =
-      record { size = omega (arith, r.done.size); small = λ k l. r.small k (omega arith); at = λ k l. r.done.first k (omega arith) }
+      record { room = omega (arith, r.done.size); small = λ k l. r.small k (omega arith); at = λ k l. r.done.first k (omega arith) }
 
 -- the next pattern of what h makes of a number, as callees give both
 pub next-made : (h : ℤ → ℤ) (numbers : List ℤ) {n : ℕ} {before left : List ℕ} {j p : ℕ} {y : ℤ}
-    → Raising n (λ k. h (place numbers k)) before left j → j < n → n ≡ length before → mag (place numbers j) < 2 ^ 15 → mag y < 2 ^ 15
+    → Raising n (λ k. h (place numbers k)) before left j → j < n → n ≤ length before → mag (place numbers j) < 2 ^ 15 → mag y < 2 ^ 15
     → y ≡ h (to_z w16 (of_z w16 (place numbers j))) → p ≡ raised_of (to_z w16 (of_z w16 y)) → Raising n (λ k. h (place numbers k)) before (set left j p) (j + 1)
 next-made h numbers {j = j} {y = y} r l room fits narrow ey ep =
     let e : y ≡ h (place numbers j) = ey ∙ ap h (to_z-of_z {w = w16} (record { sfits = fits })) in
@@ -61,14 +61,14 @@ still {j = j} p done h = done.later j (omega arith) ∙ p.at j h
 pub more-taken : (h : ℤ → ℤ) {n j r : ℕ} {f : ℕ → ℤ} {before left : List ℕ} → Patterned n f before
     → Filled (λ k. raised_of (h (f k))) j before left → j < n → r ≡ raised_of (h (f j))
     → Filled (λ k. raised_of (h (f k))) (j + 1) before (set left j r)
-more-taken h p done l made = next-filled done (omega (arith, p.size)) made
+more-taken h p done l made = next-filled done (omega (arith, p.room)) made
 
 -- the patterns of what h makes of each number
 pub all-taken : (h : ℤ → ℤ) → ((z : ℤ) → mag z < 2 ^ 15 → mag (h z) < 2 ^ 15) → {n j : ℕ} {f : ℕ → ℤ} {before left : List ℕ} → Patterned n f before
     → Filled (λ k. raised_of (h (f k))) j before left → n ≤ j → Patterned n (λ k. h (f k)) left
 all-taken h keeps {f = f} p done l =
     record {
-      size = omega (arith, p.size, done.size);
+      room = omega (arith, p.room, done.size);
       small = λ k m. keeps (f k) (p.small k m);
       at = λ k m. done.first k (omega arith);
     }

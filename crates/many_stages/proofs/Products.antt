@@ -58,9 +58,9 @@ low_product part f k = (f k +ℤ pos 32769) *ℤ low_byte (place part k)
 abbrev pub rest_product : ℕ → List ℤ → (ℕ → ℤ) → ℕ → ℤ
 rest_product s part f k = (f k +ℤ pos 2048) *ℤ left_ℤ s (place part k)
 
--- a place for a pattern is that of a number
-pub turn : {s n : ℕ} {part : List ℤ} {f : ℕ → ℤ} {left held : List ℕ} → Ready s n part f left held → {j : ℕ} → j < length left → j < n
-turn r l = omega (arith, l, r.patterns.size)
+-- where there are as many places for patterns as numbers, a place is that of a number
+pub turn : {places n j : ℕ} → places ≡ n → j < places → j < n
+turn size l = omega (arith, l, size)
 
 -- a number of a row, and one of the frame
 module _ {s n : ℕ} {part : List ℤ} {f : ℕ → ℤ} {left held : List ℕ} (r : Ready s n part f left held) {j : ℕ} (h : j < n) where
@@ -74,7 +74,7 @@ module _ {s n : ℕ} {part : List ℤ} {f : ℕ → ℤ} {left held : List ℕ} 
   few = omega (arith, in-part, r.coded.few)
 
   pub in_left : j < length left
-  in_left = omega (arith, r.patterns.size)
+  in_left = omega (arith, r.patterns.room)
 
   pub number : Raised (f j) (get_or left j 0)
   number = record { small = omega (arith, nat_abs-le (f j) (r.patterns.small j h)); pattern = r.patterns.at j h }

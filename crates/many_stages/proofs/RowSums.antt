@@ -1,20 +1,19 @@
 -- The sum of a row and a strip. By design 3 a product is the true one less that of what the stages leave of both numbers; so the sum of the true
 -- products, less that of what is left and less what the offsets add to both, is that of the design's products.
 use Rattle.std.proofs.Common.{◌≡◌, ℕ, ◌*◌, ◌^◌, ◌<◌, ◌≤◌, min, List, length, ℤ, pos, ◌+ℤ◌, ◌-ℤ◌, ◌*ℤ◌, neg_ℤ, nat_abs, sym, ap, ◌∙◌, mul-le-mul, arith, w64, SFits}
-use lib.Ieee.{unlike}
 use lib.Signed.{mag, nat_abs-le}
-use Rattle.designs.specs.Designs.{product, staged}
-use Rattle.designs.specs.Signs.{left_ℤ, negative, residue, signed_product}
+use Rattle.designs.specs.Designs.{staged}
+use Rattle.designs.specs.Signs.{left_ℤ, residue, signed_product}
 use Rattle.designs.proofs.Differences.{add-gap, as-gap, Gap, gap-eq, neg-gap}
 use Rattle.designs.proofs.SignedLeft.{left-size, staged-left}
-use Rattle.designs.proofs.Sizes.{size-add, size-neg, size-sign, size-true}
+use Rattle.designs.proofs.Sizes.{size-add, size-neg, size-true}
 use Rattle.signs.proofs.Integers.{sized}
 use Rattle.patterns.specs.Blocks.{place}
-use Rattle.patterns.proofs.Pair.{product-size}
 use Rattle.blocks.specs.Counts.{total}
 use Rattle.blocks.specs.Residues.{of_pair}
 use Rattle.blocks.proofs.Counts.{total_size}
 use Rattle.strips.specs.Strips.{Summed}
+use Rattle.strips.proofs.EachStage.{staged-small}
 use Rattle.strips.proofs.HalfSums.{summed-pairs}
 use Rattle.many_stages.specs.Strips.{excess_of}
 use Rattle.many_stages.proofs.Totals.{without-offsets}
@@ -29,11 +28,6 @@ left-of p q = go (as-gap p) (as-gap q)
 staged-is : (s : ℕ) (w x : ℤ) → w *ℤ x -ℤ left_ℤ s w *ℤ left_ℤ s x ≡ signed_product (staged s) w x
 unfolding residue
 staged-is s w x = ap (λ (z : ℤ). w *ℤ x -ℤ z) (sym (staged-left s w x)) ∙ left-of (w *ℤ x) (signed_product (staged s) w x)
-
-staged-small : (s : ℕ) (w x : ℤ) → nat_abs w ≤ 2 ^ 15 → nat_abs x ≤ 2 ^ 15 → nat_abs (signed_product (staged s) w x) ≤ 2 ^ 33
-unfolding signed_product
-staged-small s w x hw hx =
-    omega (arith, size-sign (unlike (negative w) (negative x)) (product (staged s) (nat_abs w) (nat_abs x)), product-size (staged s) tt w x hw hx)
 
 module _ (s : ℕ) (row part : List ℤ) {n : ℕ} (e : n ≡ min (length row) (length part)) (weights : (k : ℕ) → k < n → mag (place row k) < 2 ^ 15)
     (numbers : (k : ℕ) → k < length part → mag (place part k) < 2 ^ 15) (few : length part ≤ 128) where

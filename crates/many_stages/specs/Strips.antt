@@ -17,9 +17,9 @@ pub record Raised (z : ℤ) (p : ℕ) : Type 0 where
   pub small : unsigned_abs z ≤ 2 ^ 16
   pub pattern : p ≡ raised_of z
 
--- the raised patterns of the first n numbers that f gives, which have 16 bits, and no more
+-- the raised patterns of the first n numbers that f gives, which have 16 bits
 pub record Patterned (n : ℕ) (f : ℕ → ℤ) (left : List ℕ) : Type 0 where
-  pub size : length left ≡ n
+  pub room : n ≤ length left
   pub small : (k : ℕ) → k < n → mag (f k) < 2 ^ 15
   pub at : (k : ℕ) → k < n → slice_index left k ≡ raised_of (f k)
 

@@ -17,8 +17,8 @@ pub(crate) const LEFT: usize = 1024;
 // numbers. A part of `held` in place of `at` is no plainer: each call would name both its ends, and that a run leaves the places of the runs
 // before, which `spread` needs, would have to be said of the whole all the same.
 fn take_off<F: Fn(u32) -> u32>(at: usize, left: &mut [u32], held: &mut [u32], power: F)
-    requires { F.IsAlwaysCallable power × ((n : ℕ) × (f : ℕ → ℤ) × Finding (F.post power) n f × Stepping n f at left.old held.old) }
-    ensures { (n : ℕ) (f : ℕ → ℤ) → Finding (F.post power) n f → Stepping n f at left.old held.old → Patterned n (λ k. f k -ℤ next_power (f k)) left.new × Filled at n (λ k. next_power (f k)) held.old held.new }
+    requires { F.IsAlwaysCallable power × ((n : ℕ) × (f : ℕ → ℤ) × Finding (F.post power) n f × (length left.old ≡ n) × Stepping n f at left.old held.old) }
+    ensures { (n : ℕ) (f : ℕ → ℤ) → Finding (F.post power) n f → length left.old ≡ n → Stepping n f at left.old held.old → Patterned n (λ k. f k -ℤ next_power (f k)) left.new × Filled at n (λ k. next_power (f k)) held.old held.new }
 {
     for (j, p) in left.iter_mut().enumerate() {
         let q = power(*p);
@@ -30,7 +30,7 @@ fn take_off<F: Fn(u32) -> u32>(at: usize, left: &mut [u32], held: &mut [u32], po
 // Those of the numbers themselves, none of which is 0.
 fn last(at: usize, left: &[u32], held: &mut [u32])
     requires { at + length left.now ≤ length held.old }
-    ensures { (n : ℕ) (f : ℕ → ℤ) → Patterned n f left.now → ((k : ℕ) → k < n → 0 < unsigned_abs (f k)) → Filled at n f held.old held.new }
+    ensures { (n : ℕ) (f : ℕ → ℤ) → length left.now ≡ n → Patterned n f left.now → ((k : ℕ) → k < n → 0 < unsigned_abs (f k)) → Filled at n f held.old held.new }
 {
     for (j, p) in left.iter().enumerate() {
         held[at + j] = powers::code(*p);
@@ -39,8 +39,8 @@ fn last(at: usize, left: &[u32], held: &mut [u32])
 
 // The codes of m + 1 powers of each of the numbers. Any of them may be 0, but what a power leaves is not.
 fn spread(m: usize, at: usize, left: &mut [u32], held: &mut [u32])
-    requires { ((n : ℕ) × (f : ℕ → ℤ) × Short n f left.old) × (1 ≤ m) × (m ≤ 5) × (length left.old ≤ 128) × (at + 128 * m + 128 ≤ length held.old) }
-    ensures { (n : ℕ) (f : ℕ → ℤ) → Short n f left.old → Powered m at n f held.old held.new }
+    requires { ((n : ℕ) × (f : ℕ → ℤ) × (length left.old ≡ n) × Short n f left.old) × (1 ≤ m) × (m ≤ 5) × (length left.old ≤ 128) × (at + 128 * m + 128 ≤ length held.old) }
+    ensures { (n : ℕ) (f : ℕ → ℤ) → length left.old ≡ n → Short n f left.old → Powered m at n f held.old held.new }
 {
     take_off(at, left, held, powers::first_power);
     for i in 1..m {

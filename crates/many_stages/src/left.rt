@@ -22,8 +22,8 @@ pub(crate) fn raise<F: Fn(i16) -> i16>(numbers: &[i16], left: &mut [u32], f: F)
 
 // The patterns of what f leaves of the numbers, in their places: f takes and gives patterns.
 fn next<F: Fn(u32) -> u32>(left: &mut [u32], f: F)
-    requires { (h : ℤ → ℤ) × (n : ℕ) × (g : ℕ → ℤ) × Leaving (F.pre f) (F.post f) h × Patterned n g left.old }
-    ensures { (h : ℤ → ℤ) (n : ℕ) (g : ℕ → ℤ) → Leaving (F.pre f) (F.post f) h → Patterned n g left.old → Patterned n (λ k. h (g k)) left.new }
+    requires { (h : ℤ → ℤ) × (n : ℕ) × (g : ℕ → ℤ) × Leaving (F.pre f) (F.post f) h × (length left.old ≡ n) × Patterned n g left.old }
+    ensures { (h : ℤ → ℤ) (n : ℕ) (g : ℕ → ℤ) → Leaving (F.pre f) (F.post f) h → length left.old ≡ n → Patterned n g left.old → Patterned n (λ k. h (g k)) left.new }
 {
     for p in left.iter_mut() {
         *p = f(*p);
@@ -32,8 +32,8 @@ fn next<F: Fn(u32) -> u32>(left: &mut [u32], f: F)
 
 // Those of what all stages leave: as many as there are by fours, and the others one by one.
 pub(crate) fn leave(stages: Stages, left: &mut [u32])
-    requires { (n : ℕ) × (f : ℕ → ℤ) × Patterned n f left.old }
-    ensures { (n : ℕ) (f : ℕ → ℤ) → Patterned n f left.old → Patterned n (λ k. left_ℤ stages.count (f k)) left.new }
+    requires { (n : ℕ) × (f : ℕ → ℤ) × (length left.old ≡ n) × Patterned n f left.old }
+    ensures { (n : ℕ) (f : ℕ → ℤ) → length left.old ≡ n → Patterned n f left.old → Patterned n (λ k. left_ℤ stages.count (f k)) left.new }
 {
     for _fours in 0..stages.count / 4 {
         next(left, powers::rest_of_four);
@@ -45,8 +45,8 @@ pub(crate) fn leave(stages: Stages, left: &mut [u32])
 
 // The sum of the numbers.
 pub(crate) fn sum(left: &[u32]) -> i32
-    requires { (n : ℕ) × (f : ℕ → ℤ) × Patterned n f left.now × (n ≤ 128) }
-    ensures { (n : ℕ) (f : ℕ → ℤ) → Patterned n f left.now → result ≡ total f n }
+    requires { (n : ℕ) × (f : ℕ → ℤ) × (length left.now ≡ n) × Patterned n f left.now × (n ≤ 128) }
+    ensures { (n : ℕ) (f : ℕ → ℤ) → length left.now ≡ n → Patterned n f left.now → result ≡ total f n }
 {
     let mut sum = 0;
     for p in left {

@@ -1,19 +1,18 @@
 // Rows that are scored together against one frame by design 3, with four stages or more. What s stages leave of a product is the product of what
 // they leave of both numbers, so a design's product is the true one less that; and each of the two is a sum of products with signed powers of
-// two, which are additions to exponents. So the time hardly depends on s, and nothing is multiplied. The frame goes in strips of 128 numbers.
-// Any slices are taken, as `strips` takes them.
+// two, which are additions to exponents. So the time hardly depends on s, and nothing is multiplied. The frame goes in strips of 128 numbers, which
+// `strips::score` hands over. Any slices are taken.
 #![tactic(auto)]
 
-ghost use Rattle.std.specs.Prelude.{◌≡◌, length};
 ghost use Rattle.std.proofs.Common.{rules};
 ghost use Rattle.designs.specs.Designs.{staged};
-ghost use Rattle.patterns.specs.Blocks.{place};
-ghost use Rattle.many_stages.specs.Strips.{Coded, excess_of, many_of};
+ghost use Rattle.many_stages.specs.Strips.{many_of};
 
 mod count;
 mod frame;
 mod left;
 mod powers;
+mod rows;
 mod sums;
 
 use strips::InStrips;
@@ -59,27 +58,33 @@ impl InStrips for ManyStages {
 
     ghost design = { λ d. staged (many_of d.stages) };
 
-    ghost coded = { λ d part c. Coded (many_of d.stages) part c.held × (c.excess ≡ excess_of (many_of d.stages) (place part) (length part)) };
-
     ghost some = { Prim.search rules };
 
     ghost few = { Prim.search rules };
 
-    fn code(self, part: &[i16], codes: &mut Codes) {
+    fn take(
+        self,
+        columns: usize,
+        from: usize,
+        weights: &[i16],
+        part: &[i16],
+        codes: &mut Codes,
+        scores: &mut [i64],
+    ) {
         let stages = count::taken(self.stages);
+        let part = &part[..pairs::fewer(part.len(), STRIP)];
         let left = &mut codes.left[..];
         codes.excess = frame::coded(stages, part, &mut codes.held[..], &mut left[..part.len()]);
-    }
-
-    fn sum(self, row: &[i16], part: &[i16], codes: &mut Codes) -> i64 {
-        let stages = count::taken(self.stages);
-        sums::sum(
+        rows::staged(
             stages,
-            row,
+            columns,
+            from,
+            weights,
             part,
             &codes.held,
             codes.excess,
             &mut codes.left,
-        )
+            scores,
+        );
     }
 }

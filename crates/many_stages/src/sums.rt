@@ -75,8 +75,8 @@ fn joined(high: i32, low: i32) -> i64
 
 // The sum of the true products of the numbers, each with its offset, and those of a part.
 fn whole(left: &[u32], held: &[u32; CODES]) -> i64
-    requires { (s : ℕ) × (n : ℕ) × (part : List ℤ) × (f : ℕ → ℤ) × Ready s n part f left.now held.now }
-    ensures { (s n : ℕ) (part : List ℤ) (f : ℕ → ℤ) → Ready s n part f left.now held.now → result ≡ total (λ k. (f k +ℤ pos 32769) *ℤ place part k) n }
+    requires { (s : ℕ) × (n : ℕ) × (part : List ℤ) × (f : ℕ → ℤ) × (length left.now ≡ n) × Ready s n part f left.now held.now }
+    ensures { (s n : ℕ) (part : List ℤ) (f : ℕ → ℤ) → length left.now ≡ n → Ready s n part f left.now held.now → result ≡ total (λ k. (f k +ℤ pos 32769) *ℤ place part k) n }
 {
     let mut high = 0;
     let mut low = 0;
@@ -90,8 +90,8 @@ fn whole(left: &[u32], held: &[u32; CODES]) -> i64
 
 // That of what the stages leave of both, with the other offset.
 fn rests(left: &[u32], held: &[u32; CODES]) -> i64
-    requires { (s : ℕ) × (n : ℕ) × (part : List ℤ) × (f : ℕ → ℤ) × ReadyRests s n part f left.now held.now }
-    ensures { (s n : ℕ) (part : List ℤ) (f : ℕ → ℤ) → ReadyRests s n part f left.now held.now → result ≡ total (λ k. (f k +ℤ pos 2048) *ℤ left_ℤ s (place part k)) n }
+    requires { (s : ℕ) × (n : ℕ) × (part : List ℤ) × (f : ℕ → ℤ) × (length left.now ≡ n) × ReadyRests s n part f left.now held.now }
+    ensures { (s n : ℕ) (part : List ℤ) (f : ℕ → ℤ) → length left.now ≡ n → ReadyRests s n part f left.now held.now → result ≡ total (λ k. (f k +ℤ pos 2048) *ℤ left_ℤ s (place part k)) n }
 {
     let mut sum = 0;
     for (j, w) in left.iter().enumerate() {

@@ -1,6 +1,8 @@
 -- A strip of the frame against all rows, by any design. The row of place r begins r frames after the first weight, or is past the end of the
 -- weights, where all count as 0; its sum over the strip is added to what its place counts for so far.
-use Rattle.std.proofs.Common.{◌≡◌, ℕ, zero, suc, ◌+◌, ◌-◌, ◌*◌, ◌^◌, ◌<◌, ◌≤◌, min, List, length, take, drop, set, ℤ, pos, ◌+ℤ◌, nat_abs, sym, refl, ap, ◌∙◌, ap₂, arith, length-drop, get_or-drop, take_all, w64, SFits, to_z, of_z, to_z-of_z, below_more}
+use Rattle.std.proofs.Common.{◌≡◌, ℕ, zero, suc, ◌+◌, ◌-◌, ◌*◌, ◌^◌, ◌<◌, ◌≤◌, min, List, length, take, drop, set, ℤ, pos, ◌+ℤ◌, nat_abs, sym, refl, ap, ◌∙◌, subst, ap₂, arith, length-drop, get_or-drop, take_all, w64, SFits, to_z, of_z, to_z-of_z, below_more}
+use Rattle.std.specs.Int.{int_wrap, int_wrapping_add}
+use Rattle.std.proofs.lemmas.Int.{int_wrap_fits, wrapping_add_is}
 use lib.ListN.{get_or-eq_default}
 use lib.Signed.{mag}
 use Rattle.designs.specs.Designs.{Design}
@@ -98,3 +100,18 @@ module _ (D : Design) (columns from : ℕ) (ws part before : List ℤ) where
     pub next-read : {at' : ℕ} → at' ≡ min (at + columns) (length ws)
         → Going (set scores r (to_z w64 (of_z w64 (to_z w64 (of_z w64 so_far) +ℤ to_z w64 (of_z w64 sum))))) at' (r + 1)
     next-read e' = rw (read_back so_far so, read_back sum small) (next going h e summed few room counts e')
+
+    -- a sum that fits is the machine's, which wraps
+    wrapped : int_wrapping_add w64 so_far sum ≡ to_z w64 (of_z w64 (to_z w64 (of_z w64 so_far) +ℤ to_z w64 (of_z w64 sum)))
+    wrapped =
+        wrapping_add_is w64 so_far sum (record { sfits = so }) (record { sfits = small })
+        ∙ ap (int_wrap w64) (sym (ap₂ ◌+ℤ◌ (read_back so_far so) (read_back sum small))) ∙ int_wrap_fits w64 _ fits-read ∙ sym (to_z-of_z fits-read)
+
+    pub next-wrapped : {at' : ℕ} → at' ≡ min (at + columns) (length ws) → Going (set scores r (int_wrapping_add w64 so_far sum)) at' (r + 1)
+    next-wrapped {at'} e' = subst (λ (z : ℤ). Going (set scores r z) at' (r + 1)) (sym wrapped) (next-read e')
+
+-- of a part that is no longer than m its first numbers are all
+pub whole-part : {D : Design} {columns from m n : ℕ} {ws part before after : List ℤ} → length part ≤ m → n ≡ min (length part) m
+    → Stripped D columns from ws (take n part) before after → Stripped D columns from ws part before after
+whole-part {D} {columns} {from} {m} {n} {ws} {part} {before} {after} few e stripped =
+    subst (λ (p : List ℤ). Stripped D columns from ws p before after) (take_all n part (omega arith)) stripped

@@ -2,15 +2,18 @@
 -- was left of both numbers of a pair to the products so far.
 use Rattle.std.proofs.Common.{◌≡◌, ℕ, suc, ◌+◌, ◌-◌, ◌*◌, ◌^◌, ◌<◌, ◌≤◌, List, length, get_or, take, set, ℤ, pos, ◌+ℤ◌, nat_abs, sym, refl, ap, ◌∙◌, ap₂, add-one, arith, length-set, length-take, get_or-set_other, get_or-take, get_or-set_same, to_z-of_z, w16, w32, SFits, to_z, of_z}
 use borrow.Rule.Slice.PartMut.{put_mid}
+use lib.Ieee.{unlike}
 use lib.Signed.{mag, nat_abs-le}
-use Rattle.designs.specs.Designs.{staged}
-use Rattle.designs.specs.Signs.{left_ℤ, rest_ℤ, signed_product}
+use Rattle.designs.specs.Designs.{product, staged}
+use Rattle.designs.specs.Signs.{left_ℤ, negative, rest_ℤ, signed_product}
 use Rattle.designs.proofs.Cases.{either_lt}
 use Rattle.designs.proofs.SignedLeft.{left-next, left-none, left-size, no-stage, staged-then}
+use Rattle.designs.proofs.Sizes.{size-sign}
 use Rattle.patterns.specs.Blocks.{Done, place}
 use Rattle.patterns.specs.Patterns.{raised_of}
-use Rattle.patterns.proofs.Pair.{product-fits}
+use Rattle.patterns.proofs.Pair.{product-fits, product-size}
 use Rattle.blocks.specs.Counts.{total}
+use Rattle.blocks.proofs.Counts.{total_size}
 use Rattle.strips.specs.Codes.{code_of, StageCoded, StageLogs}
 use Rattle.strips.specs.Stages.{Codes, Left, Multiplied, Multiplying, pairs_of}
 use Rattle.strips.specs.Strips.{Summed}
@@ -174,9 +177,24 @@ taken-left {n} row inside walked =
       at = λ k h. walked.at k (omega (arith, size)) ∙ ap (λ (z : ℤ). raised_of (left_ℤ 0 z)) (get_or-take n row k (pos 0) h);
     }
 
--- the sum of all products
-pub summed-stages : {s n : ℕ} {row part found : List ℤ} {r : ℤ} → Multiplied s row part found → 1 ≤ s → n ≡ pairs_of row part → r ≡ total (place found) n
+-- a product of 16-bit numbers
+pub staged-small : (s : ℕ) (w x : ℤ) → nat_abs w ≤ 2 ^ 15 → nat_abs x ≤ 2 ^ 15 → nat_abs (signed_product (staged s) w x) ≤ 2 ^ 33
+unfolding signed_product
+staged-small s w x hw hx =
+    omega (arith, size-sign (unlike (negative w) (negative x)) (product (staged s) (nat_abs w) (nat_abs x)), product-size (staged s) tt w x hw hx)
+
+-- the sum of all products, where it is small, as it is of 16-bit numbers
+pub summed-small : {s n : ℕ} {row part found : List ℤ} {r : ℤ} → Multiplied s row part found → 1 ≤ s → n ≡ pairs_of row part → r ≡ total (place found) n
     → nat_abs (total (place found) n) ≤ n * 2 ^ 33 → Summed (staged s) row part r
-summed-stages {s} {n} {row} {part} {found} done some e er small =
+summed-small {s} {n} {row} {part} {found} done some e er small =
     let all = total-as n (λ k h. sym (holds s (place found k) (omega arith)) ∙ done.at k (omega (arith, e))) in
     summed-pairs (staged s) row part e (er ∙ all) (rw all at small)
+
+pub summed-stages : {s n : ℕ} {row part found : List ℤ} {r : ℤ} → Multiplied s row part found → 1 ≤ s → n ≡ pairs_of row part → ((k : ℕ) → k < n → nat_abs (place row k) ≤ 2 ^ 15)
+    → ((k : ℕ) → k < length part → nat_abs (place part k) ≤ 2 ^ 15) → r ≡ total (place found) n → Summed (staged s) row part r
+summed-stages {s} {n} {row} {part} {found} done some e sized small er = summed-small done some e er (total_size (place found) (2 ^ 33) n bound)
+  where
+    bound : (k : ℕ) → k < n → nat_abs (place found k) ≤ 2 ^ 33
+    bound k h =
+        rw (sym (holds s (place found k) (omega arith)) ∙ done.at k (omega (arith, e)))
+        (staged-small s (place row k) (place part k) (sized k h) (small k (omega (arith, e))))

@@ -22,6 +22,13 @@ some-started (suc from) z e = refl
 pub holds : (from : ℕ) (z : ℤ) → 0 < from → started from z ≡ z
 holds from z h = sym (some-started from z (λ e. omega arith))
 
+-- a part of a frame
+abbrev pub part : List ℤ → ℕ → ℕ → List ℤ
+part fs from end = take (end - from) (drop from fs)
+
+pub few : (fs : List ℤ) (from end most : ℕ) → end ≤ from + most → length (part fs from end) ≤ most
+few fs from end most h = simp (length-take, length-drop) (omega (arith, h))
+
 -- the numbers of a frame that count
 abbrev pub counted : List ℤ → List ℤ
 counted fs = take (framed fs) fs
@@ -62,17 +69,17 @@ module _ (D : Design) (ws fs before : List ℤ) where
 
   -- a turn, which takes p off what is left
   module _ (scores left p rest : List ℤ) (from : ℕ) (going : Going scores from left) (e : left ≡ p ++ rest) where
-    part : p ++ rest ≡ drop from (counted fs)
-    part = sym e ∙ going.ahead
+    split : p ++ rest ≡ drop from (counted fs)
+    split = sym e ∙ going.ahead
 
     pub within : from + length p ≤ 4096
-    within = omega (arith, left_length fs p rest from part, going.inside)
+    within = omega (arith, left_length fs p rest from split, going.inside)
 
     pub next : {new : List ℤ} → 0 < length p → Stripped D (length fs) from ws p scores new → Going new (from + length p) rest
     next {new} some stripped =
         record {
-          inside = omega (arith, left_length fs p rest from part, going.inside);
-          ahead = after fs p rest from part;
+          inside = omega (arith, left_length fs p rest from split, going.inside);
+          ahead = after fs p rest from split;
           size = stripped.done.size ∙ going.size;
           so_far = λ r l.
               holds (from + length p) (place new r) (omega arith) ∙ stripped.done.first r (omega (arith, going.size))
@@ -85,7 +92,7 @@ module _ (D : Design) (ws fs before : List ℤ) where
         strip : (r : ℕ) → total (product_at D ws (r * length fs + from) p) (length p) ≡ total (λ k. products r (from + k)) (length p)
         strip r =
             total-as (length p)
-            (λ k l. ap₂ (signed_product D) (ap (place ws) (add_assoc (r * length fs) from k)) (part_at fs p rest from part k l))
+            (λ k l. ap₂ (signed_product D) (ap (place ws) (add_assoc (r * length fs) from k)) (part_at fs p rest from split k l))
 
   pub ended : {scores rest : List ℤ} {from : ℕ} → Going scores from rest → length rest ≡ 0 → Scored D ws fs before scores
   ended {scores} {rest} {from} going h =

@@ -1,6 +1,6 @@
 -- A sum in two halves: a number is 2^16 times its high half and its low one, and both kinds are added up apart. Where the pairs end before
 -- the frame's part, the weights that are missing count as 0, and so do their products.
-use Rattle.std.proofs.Common.{◌≡◌, ℕ, zero, suc, ◌+◌, ◌-◌, ◌*◌, ◌/◌, ◌%◌, ◌^◌, ◌<◌, ◌≤◌, min, Bool, true, false, List, length, ℤ, pos, negsuc, ◌+ℤ◌, ◌*ℤ◌, nat_abs, sym, refl, ap, ◌∙◌, subst, ap₂, add-zero, add-suc, arith, to_z-of_z, w32, to_z, of_z}
+use Rattle.std.proofs.Common.{◌≡◌, ℕ, zero, suc, ◌+◌, ◌-◌, ◌*◌, ◌/◌, ◌%◌, ◌^◌, ◌<◌, ◌≤◌, min, Bool, true, false, List, length, ℤ, pos, negsuc, ◌+ℤ◌, ◌*ℤ◌, nat_abs, sym, refl, ap, ◌∙◌, subst, ap₂, add-zero, add-suc, le_antisymm, arith, to_z-of_z, w32, to_z, of_z}
 use lib.Ieee.{unlike}
 use lib.IntN.{+ℤ_idr}
 use lib.ListN.{get_or-eq_default}
@@ -113,3 +113,7 @@ module _ (D : Design) (ws part : List ℤ) {n : ℕ} (e : n ≡ min (length ws) 
 
   pub summed-pairs : {r : ℤ} → r ≡ total product n → nat_abs (total product n) ≤ n * 2 ^ 33 → Summed D ws part r
   summed-pairs er small = record { is = er ∙ sym (stops (length part - n) (omega arith)); small = rw er (omega (arith, small, e)) }
+
+  -- by a loop over them
+  pub summed : {given : (ℕ → ℤ) → Type 0} {j : ℕ} {h : Halves} {r : ℤ} → Adding given j h → given product → j ≤ n → n ≤ j → r ≡ joined_of h → Summed D ws part r
+  summed adding gives inside l er = let all = ended adding (le_antisymm inside l) er product gives in summed-pairs all.0 all.1

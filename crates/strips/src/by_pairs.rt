@@ -1,6 +1,5 @@
 // Designs that take the pairs of a row and a strip one by one: the codes that each makes of a number, and its product with a weight.
 ghost use Rattle.std.specs.Prelude.{◌≡◌, ℕ, ◌<◌, ◌≤◌, List, length, ℤ};
-ghost use Rattle.std.proofs.Common.{rules};
 ghost use Rattle.designs.specs.Codes.{kept_code};
 ghost use Rattle.designs.specs.Designs.{Design, mitchell, nearest, truncated, twice_truncated};
 ghost use Rattle.designs.specs.Signs.{signed_product};
@@ -8,7 +7,8 @@ ghost use Rattle.patterns.specs.Blocks.{place};
 ghost use Rattle.patterns.specs.Patterns.{clamped};
 ghost use Rattle.strips.specs.Codes.{code_by, code_of, Coded, FourCoded, offset_code, power_code};
 
-use crate::{InStrips, STRIP, UNSET, codes, products, sums};
+use crate::by_codes::ByCodes;
+use crate::{STRIP, UNSET, codes, products, sums};
 use patterns::methods::{Mitchell, Nearest, Truncated, TwiceTruncated};
 
 pub trait ByPairs: Copy {
@@ -28,26 +28,18 @@ pub trait ByPairs: Copy {
         ensures { (part : List ℤ) → coded self part codes.now → j < length part → length part ≤ 64 → result ≡ signed_product (design self) w (place part j) };
 }
 
-impl<P: ByPairs> InStrips for P {
+impl<P: ByPairs> ByCodes for P {
     type Codes = P::Codes;
-
-    const NUMBERS: usize = STRIP;
-
-    ghost NUMBERS = { 64 };
 
     ghost design = { λ d. P.ByPairs.design d };
 
     ghost coded = { λ d part c. P.ByPairs.coded d part c };
 
-    ghost some = { Prim.search rules };
-
-    ghost few = { Prim.search rules };
-
     fn code(self, part: &[i16], codes: &mut P::Codes) {
         ByPairs::code(self, part, codes);
     }
 
-    fn sum(self, row: &[i16], part: &[i16], codes: &mut P::Codes) -> i64 {
+    fn sum(self, row: &[i16], part: &[i16], codes: &P::Codes) -> i64 {
         let n = pairs::fewer(row.len(), part.len());
         sums::sum(n, |j| self.product(row[j], codes, j))
     }

@@ -3,10 +3,11 @@
 // rows are as many as there are places for scores, each as long as the frame, and of the frame the first 4,096 numbers count.
 #![tactic(auto)]
 
-ghost use Rattle.std.specs.Prelude.{◌≡◌, ℕ, ◌<◌, ◌≤◌, List, length, ℤ};
+ghost use Rattle.std.specs.Prelude.{◌≡◌, ℕ, ◌<◌, ◌≤◌, length};
 ghost use Rattle.designs.specs.Designs.{Design};
-ghost use Rattle.strips.specs.Strips.{Scored, Summed};
+ghost use Rattle.strips.specs.Strips.{Room, Scored, Stripped};
 
+mod by_codes;
 mod by_pairs;
 mod codes;
 mod count;
@@ -38,18 +39,18 @@ pub trait InStrips: Copy {
 
     ghost design: { Self → Design };
 
-    // these are the codes of a part of a frame
-    ghost coded: { Self → List ℤ → Self.Codes → Type 0 };
-
-    fn code(self, part: &[i16], codes: &mut Self::Codes)
-        requires { length part.now ≤ NUMBERS }
-        ensures { coded self part.now codes.new };
-
-    // The sum of the products of a row and a part. The codes may have places to work in.
-    fn sum(self, row: &[i16], part: &[i16], codes: &mut Self::Codes) -> i64
-        requires { coded self part.now codes.old × (length part.now ≤ NUMBERS) }
-        ensures sum { Summed (design self) row.now part.now result }
-        ensures codes { coded self part.now codes.new };
+    // A part of a frame against all rows, where the columns before `from` are done: it becomes codes, whatever they were before, and then each
+    // row takes it. Of a longer part the first numbers count, and a sum that fits no place wraps.
+    fn take(
+        self,
+        columns: usize,
+        from: usize,
+        weights: &[i16],
+        part: &[i16],
+        codes: &mut Self::Codes,
+        scores: &mut [i64],
+    )
+        ensures { length part.now ≤ NUMBERS → Room from scores.old → Stripped (design self) columns from weights.now part.now scores.old scores.new };
 
     ghost some: { 0 < NUMBERS };
 
@@ -65,8 +66,7 @@ pub fn score<S: InStrips>(design: S, weights: &[i16], frame: &[i16], scores: &mu
     let mut codes = S::Codes::default();
     let mut from = 0;
     for part in counted.chunks(S::NUMBERS) {
-        design.code(part, &mut codes);
-        rows::take(design, columns, from, weights, part, &mut codes, scores);
+        design.take(columns, from, weights, part, &mut codes, scores);
         from += part.len();
     }
 }

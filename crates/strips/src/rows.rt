@@ -2,7 +2,7 @@
 ghost use Rattle.std.specs.Prelude.{◌≡◌, ◌+◌, ◌≤◌, length, min};
 ghost use Rattle.strips.specs.Strips.{Room, started, Stripped};
 
-use crate::InStrips;
+use crate::by_codes::ByCodes;
 
 // The place n ahead, or the end.
 pub fn ahead(at: usize, n: usize, end: usize) -> usize
@@ -25,24 +25,24 @@ pub fn so_far(from: usize, score: i64) -> i64
     score
 }
 
-// Each row takes the strip that begins at column `from`.
-pub(crate) fn take<S: InStrips>(
-    design: S,
+// Each row takes the strip that begins at column `from`. Where a place has no room for its sum, that wraps.
+pub(crate) fn take<D: ByCodes>(
+    design: D,
     columns: usize,
     from: usize,
     weights: &[i16],
     part: &[i16],
-    codes: &mut S::Codes,
+    codes: &D::Codes,
     scores: &mut [i64],
 )
-    requires { S.coded design part.now codes.old × (length part.now ≤ S.NUMBERS) × Room from scores.old }
-    ensures { Stripped (S.design design) columns from weights.now part.now scores.old scores.new }
+    requires { D.coded design part.now codes.now × (length part.now ≤ 64) }
+    ensures { Room from scores.old → Stripped (D.design design) columns from weights.now part.now scores.old scores.new }
 {
     let mut at = 0;
     for score in scores.iter_mut() {
         let start = ahead(at, from, weights.len());
         let before = so_far(from, *score);
-        *score = before + design.sum(&weights[start..], part, codes);
+        *score = before.wrapping_add(design.sum(&weights[start..], part, codes));
         at = ahead(at, columns, weights.len());
     }
 }

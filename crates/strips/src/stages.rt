@@ -1,13 +1,13 @@
 // Design 3 over a strip, one stage over all pairs before the next, so that a stage is vector code for any number of stages.
 ghost use Rattle.std.specs.Prelude.{◌≡◌, ℕ, ◌+◌, ◌≤◌, List, length, ℤ};
-ghost use Rattle.std.proofs.Common.{rules};
 ghost use Rattle.designs.specs.Designs.{Design, staged};
 ghost use Rattle.strips.specs.Codes.{StageCoded};
 ghost use Rattle.strips.specs.Stages.{Codes, Left, Multiplied, Multiplying, pairs_of, stages_of};
 ghost use Rattle.strips.specs.Strips.{started};
 
+use crate::by_codes::ByCodes;
 use crate::count::{Stages, taken};
-use crate::{InStrips, STRIP, UNSET, codes, products, sums};
+use crate::{STRIP, UNSET, codes, products, sums};
 use patterns::methods::Staged;
 
 // The places for the codes of a strip: of its numbers, and of what each of up to 16 stages leaves of them.
@@ -99,26 +99,18 @@ impl Default for StageCodes {
     }
 }
 
-impl InStrips for Staged {
+impl ByCodes for Staged {
     type Codes = StageCodes;
-
-    const NUMBERS: usize = STRIP;
-
-    ghost NUMBERS = { 64 };
 
     ghost design = { λ d. staged (stages_of d.stages) };
 
     ghost coded = { λ d part c. StageCoded (stages_of d.stages + 1) part c.held };
 
-    ghost some = { Prim.search rules };
-
-    ghost few = { Prim.search rules };
-
     fn code(self, part: &[i16], codes: &mut StageCodes) {
         coded(taken(self.stages), part, &mut codes.held[..]);
     }
 
-    fn sum(self, row: &[i16], part: &[i16], codes: &mut StageCodes) -> i64 {
+    fn sum(self, row: &[i16], part: &[i16], codes: &StageCodes) -> i64 {
         let stages = taken(self.stages);
         let n = pairs::fewer(row.len(), part.len());
         let mut places = [UNSET; STRIP];

@@ -13,10 +13,6 @@ loop-part-init g c =
           ∙ ap (λ n. take n c.args.frame.now) c.fewer.ensures);
     }
 
-pub take-requires : goal.take-requires
-take-requires g c =
-    (c.code.ensures, omega (arith, c.in-Some.ensures.steps, c.loop-part.invariant.size), room _ _ _ _ c.loop-part.invariant.strips)
-
 pub overflow_add-from : goal.overflow_add-from
 overflow_add-from g c = search rules
 
@@ -24,7 +20,10 @@ pub loop-part-preserved : goal.loop-part-preserved
 loop-part-preserved g c =
     record {
       size = c.in-Some.ensures.steps.0 ∙ c.loop-part.invariant.size;
-      strips = next _ _ _ _ _ _ _ _ _ c.loop-part.invariant.strips c.in-Some.ensures.steps.1.0 (omega (arith, c.in-Some.ensures.steps, c.loop-part.invariant.size, g.met.S.InStrips.some)) c.take.ensures;
+      strips =
+          next _ _ _ _ _ _ _ _ _ c.loop-part.invariant.strips c.in-Some.ensures.steps.1.0
+          (omega (arith, c.in-Some.ensures.steps, c.loop-part.invariant.size, g.met.S.InStrips.some))
+          (c.take.ensures (omega (arith, c.in-Some.ensures.steps, c.loop-part.invariant.size)) (room _ _ _ _ c.loop-part.invariant.strips));
     }
 
 pub returns : goal.returns

@@ -12,12 +12,12 @@ use Rattle.many_stages.proofs.frame.coded.Goals as goal
 pub spread-requires : goal.spread-requires
 spread-requires c =
     let (high, fits) = c.raise.ensures high_byte (λ x y small e. e) in
-    ((_, _, short-high c.args.part.now fits high), omega arith, omega arith, omega arith, omega arith)
+    ((_, _, c.raise.auto.left, short-high c.args.part.now fits high), omega arith, omega arith, omega arith, omega arith)
 
 pub spread-requires-2 : goal.spread-requires-2
 spread-requires-2 c =
     let (low, fits) = c.raise-2.ensures low_byte (λ x y small e. e) in
-    ((_, _, short-low c.args.part.now fits low), omega arith, omega arith, omega arith, omega arith)
+    ((_, _, c.raise-2.auto.left, short-low c.args.part.now fits low), omega arith, omega arith, omega arith, omega arith)
 
 pub spread-requires-3 : goal.spread-requires-3
 spread-requires-3 c =
@@ -25,6 +25,7 @@ spread-requires-3 c =
       (
         _,
         _,
+        c.excess-over.auto.left,
         short-rests c.args.part.now (λ k h. fits k (omega (arith, h, c.spread-2.auto.left, c.raise-2.auto.left))) c.args.stages.many c.excess-over.ensures.1,
       ),
       omega arith,
@@ -41,8 +42,8 @@ returns c =
     let first : length c.spread.new.left ≡ length part = c.spread.auto.left ∙ c.raise.auto.left ∙ c.requires.2 in
     let second : length c.spread-2.new.left ≡ length part = c.spread-2.auto.left ∙ c.raise-2.auto.left ∙ first in
     let all : (k : ℕ) → k < length part → mag (place part k) < 2 ^ 15 = λ k h. fits k (omega (arith, h, c.requires.2)) in (
-      strip-coded part all c.requires.0 (c.spread.ensures _ _ (short-high part all (as-many c.requires.2 high)))
-          (c.spread-2.ensures _ _ (short-low part all (as-many first low)))
-          (c.spread-3.ensures _ _ (short-rests part all c.args.stages.many (as-many second c.excess-over.ensures.1))),
+      strip-coded part all c.requires.0 (c.spread.ensures _ _ (c.raise.auto.left ∙ c.requires.2) (short-high part all (as-many c.requires.2 high)))
+          (c.spread-2.ensures _ _ (c.raise-2.auto.left ∙ first) (short-low part all (as-many first low)))
+          (c.spread-3.ensures _ _ (c.excess-over.auto.left ∙ second) (short-rests part all c.args.stages.many (as-many second c.excess-over.ensures.1))),
       read_back _ c.excess-over.type_inv ∙ c.excess-over.ensures.0 ∙ ap (excess_of c.args.stages.count (place part)) second,
     )

@@ -5,23 +5,23 @@ use Rattle.many_stages.proofs.NextPowers.{power-some}
 use Rattle.many_stages.proofs.frame.take_off.Goals as goal
 
 pub loop-j-init : goal.loop-j-init
-loop-j-init g c n f finds s = none-taken
+loop-j-init g c n f finds size s = none-taken
 
 pub less-requires : goal.less-requires
 less-requires g c =
-    let (n, f, finds, s) = c.requires.1 in
-    let t = c.loop-j.invariant n f finds s in
+    let (n, f, finds, size, s) = c.requires.1 in
+    let t = c.loop-j.invariant n f finds size s in
     let j = c.loop-j.j in
-    let h : j < n = omega (arith, c.loop-j-test.true, s.numbers.patterns.size) in
+    let h : j < n = omega (arith, c.loop-j-test.true, size) in
     (_, _, number-raised s t h, power-raised s t h (finds j _ h (short s t h) (rw (← number s t h) c.power-q.ensures)))
 
 pub loop-j-preserved : goal.loop-j-preserved
-loop-j-preserved g c n f finds s =
-    let t = c.loop-j.invariant n f finds s in
+loop-j-preserved g c n f finds size s =
+    let t = c.loop-j.invariant n f finds size s in
     let j = c.loop-j.j in
-    let h : j < n = omega (arith, c.loop-j-test.true, s.numbers.patterns.size) in
+    let h : j < n = omega (arith, c.loop-j-test.true, size) in
     let power = finds j _ h (short s t h) (rw (← number s t h) c.power-q.ensures) in
     next-taken s t h (c.code.ensures _ (power-some _) power) (c.less.ensures _ _ (number-raised s t h) (power-raised s t h power))
 
 pub returns : goal.returns
-returns g c n f finds s = powers-taken s (c.loop-j.invariant n f finds s) (omega (arith, c.loop-j-test.false, s.numbers.patterns.size))
+returns g c n f finds size s = powers-taken s (c.loop-j.invariant n f finds size s) (omega (arith, c.loop-j-test.false, size))

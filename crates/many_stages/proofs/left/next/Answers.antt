@@ -5,21 +5,21 @@ use Rattle.many_stages.proofs.Patterned.{all-taken, more-taken, still}
 use Rattle.many_stages.proofs.left.next.Goals as goal
 
 pub loop-p-init : goal.loop-p-init
-loop-p-init g c h n f e p = none_filled _ _
+loop-p-init g c h n f e size p = none_filled _ _
 
 pub f-requires : goal.f-requires
 f-requires g c =
-    let (h, n, f, e, p) = c.requires in
+    let (h, n, f, e, size, p) = c.requires in
     let j = c.loop-p.p-index in
-    let l : j < n = omega (arith, c.loop-p-test.true, p.size) in
-    rw (still p (c.loop-p.invariant h n f e p) l) (e.taken (f j) (p.small j l))
+    let l : j < n = omega (arith, c.loop-p-test.true, size) in
+    rw (still p (c.loop-p.invariant h n f e size p) l) (e.taken (f j) (p.small j l))
 
 pub loop-p-preserved : goal.loop-p-preserved
-loop-p-preserved g c h n f e p =
-    let done = c.loop-p.invariant h n f e p in
+loop-p-preserved g c h n f e size p =
+    let done = c.loop-p.invariant h n f e size p in
     let j = c.loop-p.p-index in
-    let l : j < n = omega (arith, c.loop-p-test.true, p.size) in
+    let l : j < n = omega (arith, c.loop-p-test.true, size) in
     more-taken h {r = c.f.result} p done l (e.made (f j) _ (p.small j l) (rw (← still p done l) c.f.ensures))
 
 pub returns : goal.returns
-returns g c h n f e p = all-taken h e.keeps p (c.loop-p.invariant h n f e p) (omega (arith, c.loop-p-test.false, p.size))
+returns g c h n f e size p = all-taken h e.keeps p (c.loop-p.invariant h n f e size p) (omega (arith, c.loop-p-test.false, size))

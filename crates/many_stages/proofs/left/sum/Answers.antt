@@ -18,30 +18,30 @@ module _ {n j : ℕ} {s r : ℤ} {f : ℕ → ℤ} {left : List ℕ} (p : Patter
   more-fits = sum_fits f {n = j + 1} (λ k l. p.small k (omega arith)) (omega arith)
 
 pub loop-p-init : goal.loop-p-init
-loop-p-init c n f p = no-sum f
+loop-p-init c n f size p = no-sum f
 
 pub number-sum-requires : goal.number-sum-requires
 number-sum-requires c =
-    let (n, f, p, few) = c.requires in
+    let (n, f, size, p, few) = c.requires in
     let j = c.loop-p.p-index in
-    let h : j < n = omega (arith, c.loop-p-test.true, p.size) in
+    let h : j < n = omega (arith, c.loop-p-test.true, size) in
     (f j, p.small j h, p.at j h)
 
 pub overflow_add-sum : goal.overflow_add-sum
 overflow_add-sum c =
-    let (n, f, p, few) = c.requires in
-    let h : c.loop-p.p-index < n = omega (arith, c.loop-p-test.true, p.size) in
-    let so_far = c.loop-p.invariant n f p in
+    let (n, f, size, p, few) = c.requires in
+    let h : c.loop-p.p-index < n = omega (arith, c.loop-p-test.true, size) in
+    let so_far = c.loop-p.invariant n f size p in
     fits-as (more p few h so_far c.number-sum.type_inv c.number-sum.ensures) (more-fits p few h so_far c.number-sum.type_inv c.number-sum.ensures)
 
 pub loop-p-preserved : goal.loop-p-preserved
-loop-p-preserved c n f p =
-    let few : n ≤ 128 = omega (arith, p.size, c.requires.2.size, c.requires.3) in
-    let h : c.loop-p.p-index < n = omega (arith, c.loop-p-test.true, p.size) in
-    let so_far = c.loop-p.invariant n f p in
+loop-p-preserved c n f size p =
+    let few : n ≤ 128 = omega (arith, size, c.requires.2, c.requires.4) in
+    let h : c.loop-p.p-index < n = omega (arith, c.loop-p-test.true, size) in
+    let so_far = c.loop-p.invariant n f size p in
     read_as (more p few h so_far c.number-sum.type_inv c.number-sum.ensures) (more-fits p few h so_far c.number-sum.type_inv c.number-sum.ensures)
 
 pub returns : goal.returns
-returns c n f p =
-    let all : c.loop-p.p-index ≡ n = omega (arith, c.loop-p-test.false, p.size) in
-    c.loop-p.invariant n f p ∙ ap (total f) all
+returns c n f size p =
+    let all : c.loop-p.p-index ≡ n = omega (arith, c.loop-p-test.false, size) in
+    c.loop-p.invariant n f size p ∙ ap (total f) all

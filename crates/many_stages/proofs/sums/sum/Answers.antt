@@ -29,15 +29,15 @@ module _ (row : List ℤ) {s n : ℕ} {part : List ℤ} {left held : List ℕ} (
 
 pub whole-products-requires : goal.whole-products-requires
 whole-products-requires c =
-    (_, _, _, _, ready c.args.row.now c.requires.0 c.args.stages.many c.fewer-n.ensures (as-many (omega (arith, c.excess-over.auto.left, c.fewer-n.ensures, c.requires.0.few)) (c.raise.ensures (λ z. z) (λ x y small made. search rules)).0))
+    (_, _, _, _, omega (arith, c.raise.auto.left, c.excess-over.auto.left, c.fewer-n.ensures, c.requires.0.few), ready c.args.row.now c.requires.0 c.args.stages.many c.fewer-n.ensures (as-many (omega (arith, c.excess-over.auto.left, c.fewer-n.ensures, c.requires.0.few)) (c.raise.ensures (λ z. z) (λ x y small made. search rules)).0))
 
 pub leave-requires : goal.leave-requires
-leave-requires c = (_, _, (c.raise.ensures (λ z. z) (λ x y small made. search rules)).0)
+leave-requires c = (_, _, c.raise.auto.left, (c.raise.ensures (λ z. z) (λ x y small made. search rules)).0)
 
 pub rests-residues-requires : goal.rests-residues-requires
 rests-residues-requires c =
     let weights : Patterned c.fewer-n.result (place c.args.row.now) c.raise.new.left = (as-many (omega (arith, c.excess-over.auto.left, c.fewer-n.ensures, c.requires.0.few)) (c.raise.ensures (λ z. z) (λ x y small made. search rules)).0) in
-    (_, _, _, _, rests-ready c.args.row.now c.requires.0 c.args.stages.many c.fewer-n.ensures weights (c.leave.ensures _ _ weights))
+    (_, _, _, _, omega (arith, c.leave.auto.left, c.raise.auto.left, c.excess-over.auto.left, c.fewer-n.ensures, c.requires.0.few), rests-ready c.args.row.now c.requires.0 c.args.stages.many c.fewer-n.ensures weights (c.leave.ensures _ _ (omega (arith, c.raise.auto.left, c.excess-over.auto.left, c.fewer-n.ensures, c.requires.0.few)) weights))
 
 -- the sums
 module _ (c : goal.After-rests-residues) where
@@ -56,13 +56,16 @@ module _ (c : goal.After-rests-residues) where
   weights : Patterned c.fewer-n.result (place row) c.raise.new.left
   weights = as-many (omega (arith, c.excess-over.auto.left, c.fewer-n.ensures, c.requires.0.few)) (c.raise.ensures (λ z. z) (λ x y small made. search rules)).0
 
+  size : length c.raise.new.left ≡ c.fewer-n.result
+  size = omega (arith, c.raise.auto.left, c.excess-over.auto.left, c.fewer-n.ensures, c.requires.0.few)
+
   less-is : to_z w64 (of_z w64 c.whole-products.result) -ℤ to_z w64 (of_z w64 c.rests-residues.result)
       ≡ products s row part c.fewer-n.ensures weights.small coded.small coded.few
       -ℤ residues s row part c.fewer-n.ensures weights.small coded.small coded.few
   less-is =
-      ap₂ ◌-ℤ◌ (read_back _ c.whole-products.type_inv ∙ c.whole-products.ensures _ _ _ _ (ready row coded c.args.stages.many c.fewer-n.ensures weights))
+      ap₂ ◌-ℤ◌ (read_back _ c.whole-products.type_inv ∙ c.whole-products.ensures _ _ _ _ size (ready row coded c.args.stages.many c.fewer-n.ensures weights))
       (read_back _ c.rests-residues.type_inv
-      ∙ c.rests-residues.ensures _ _ _ _ (rests-ready row coded c.args.stages.many c.fewer-n.ensures weights (c.leave.ensures _ _ weights)))
+      ∙ c.rests-residues.ensures _ _ _ _ (c.leave.auto.left ∙ size) (rests-ready row coded c.args.stages.many c.fewer-n.ensures weights (c.leave.ensures _ _ size weights)))
 
   -- less what the offsets add
   total-is : to_z w64 (of_z w64 (to_z w64 (of_z w64 c.whole-products.result) -ℤ to_z w64 (of_z w64 c.rests-residues.result)))

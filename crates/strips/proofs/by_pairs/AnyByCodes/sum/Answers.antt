@@ -5,10 +5,10 @@ use Rattle.signs.proofs.Integers.{read_back}
 use Rattle.patterns.specs.Blocks.{place}
 use Rattle.blocks.specs.Residues.{of_pair}
 use Rattle.strips.proofs.HalfSums.{summed-pairs}
-use Rattle.strips.proofs.by_pairs.AnyInStrips.sum.Goals as goal
+use Rattle.strips.proofs.by_pairs.AnyByCodes.sum.Goals as goal
 
-pub returns-clause-sum : goal.returns-clause-sum
-returns-clause-sum g c =
+pub returns : goal.returns
+returns g c =
     let D = g.P.ByPairs.design c.args.self in
     let product = of_pair (signed_product D) c.args.row.now c.args.part.now in
     let all =
