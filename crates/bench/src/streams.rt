@@ -32,19 +32,27 @@ pub fn read_input<R: Read>(input: &mut R, buffer: &mut [u8]) -> io::Result<usize
     Err(Error::from(ErrorKind::Interrupted))
 }
 
-// Writes all of a text to standard output, and has it stored. By the writer's `write_all`: that of printing gives up after 64 signals.
+// Writes all of a text to standard output, and has it stored. By the writer's `write_all`: that of printing gives up after 64 signals. An
+// output that takes nothing is told by the words of its kind.
 pub fn write_output(rt: &HostRuntime, text: &[u8]) -> io::Result<()> {
-    Write::write_all(&mut rt.stdout(), text)?;
-    store(rt)
+    match Write::write_all(&mut rt.stdout(), text) {
+        Err(error) if error.kind() == ErrorKind::WriteZero => Err(Error::from(error.kind())),
+        Err(error) => Err(error),
+        Ok(()) => store(rt),
+    }
 }
 
 // A file may say only when it is stored that it had no room. A pipe or a terminal stores nothing, and what this program may not open again, or
-// cannot find, is left.
+// cannot find, is left. Looking for the file is made again here where a signal interrupted it: std makes only opening and storing again.
 fn store(rt: &HostRuntime) -> io::Result<()> {
-    match store_once(rt) {
-        Err(error) if is_out_of_reach(&error) => Ok(()),
-        stored => stored,
+    for _ in 0..u64::MAX {
+        match store_once(rt) {
+            Err(error) if is_out_of_reach(&error) => return Ok(()),
+            Err(error) if error.kind() == ErrorKind::Interrupted => {}
+            stored => return stored,
+        }
     }
+    Err(Error::from(ErrorKind::Interrupted))
 }
 
 fn store_once(rt: &HostRuntime) -> io::Result<()> {
