@@ -36,7 +36,7 @@ pub fn read_input<R: Read>(input: &mut R, buffer: &mut [u8]) -> io::Result<usize
 // output that takes nothing is told by the words of its kind.
 pub fn write_output(rt: &HostRuntime, text: &[u8]) -> io::Result<()> {
     match Write::write_all(&mut rt.stdout(), text) {
-        Err(error) if error.kind() == ErrorKind::WriteZero => Err(Error::from(ErrorKind::WriteZero)),
+        Err(error) if error.kind() == ErrorKind::WriteZero => Err(Error::from(error.kind())),
         Err(error) => Err(error),
         Ok(()) => store(rt),
     }

@@ -1,6 +1,6 @@
 // Text at the start of a buffer that the caller lends and that has room for it.
 ghost use Rattle.std.specs.Prelude.{◌≡◌, [], ◌∷◌};
-ghost use Rattle.transcripts.specs.Text.{decimal, signed_decimal};
+ghost use Rattle.transcripts.specs.Text.{Room, Put, decimal, signed_decimal};
 ghost use Rattle.transcripts.specs.Answers.{HasRoom, Appended};
 
 // A buffer, of which the first places hold what is written.
@@ -30,17 +30,12 @@ impl<'a> Text<'a> {
         }
     }
 
-    // A number in decimal: without its last digit it is n / 10. By hand, since the contract of a transcript names each byte of a lent buffer.
+    // A number in decimal.
     pub(crate) fn put_number(&mut self, n: u64)
         requires { HasRoom self.old (decimal n) }
         ensures { Appended self.old (decimal n) self.new }
     {
-        if n < 10 {
-            self.put(b'0' + n as u8);
-        } else {
-            self.put_number(n / 10);
-            self.put(b'0' + (n % 10) as u8);
-        }
+        self.len = put_digits(self.buffer, self.len, n);
     }
 
     // A signed number in decimal, the lowest included.
@@ -52,5 +47,21 @@ impl<'a> Text<'a> {
             self.put(b'-');
         }
         self.put_number(v.unsigned_abs());
+    }
+}
+
+// A number in decimal from a place on, and the place after it: without its last digit it is n / 10. The place is handed on, so that it stays in
+// a register from digit to digit. By hand, since the contract of a transcript names each byte of a lent buffer.
+fn put_digits(out: &mut [u8], at: usize, n: u64) -> usize
+    requires { Room out.old at (decimal n) }
+    ensures { Put out.old at (decimal n) out.new result }
+{
+    if n < 10 {
+        out[at] = b'0' + n as u8;
+        at + 1
+    } else {
+        let last = put_digits(out, at, n / 10);
+        out[last] = b'0' + (n % 10) as u8;
+        last + 1
     }
 }

@@ -1,5 +1,0 @@
--- The number falls at each call.
-use Rattle.transcripts.proofs.writers.Text.+put_number.Given as goal
-
-abbrev pub decreases-put_number : goal.decreases-put_number
-decreases-put_number l = l.n
