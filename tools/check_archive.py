@@ -39,7 +39,7 @@ ALLOWED = {
     'highvane_score_row_staged': 9,
     'highvane_score_row_truncated': 4,
     'highvane_score_row_twice_truncated': 3,
-    'transcripts::writers::Text::put_number': 1,
+    'transcripts::writers::put_digits': 1,
 }
 # the rows and the file of the layer, in which loops are looked at; what makes a loop one of vectors, one that goes pair by pair, and the
 # kernel's
