@@ -1,5 +1,5 @@
-// A strip of the frame against all rows: the sums so far stand in the places for the scores. `strips` has such a loop for designs by codes; what
-// this one's sum asks for is a relation of several values, and so no trait's that is public.
+// A strip of the frame against all rows: the sums so far stand in the places for the scores. `strips` has this loop too, over a trait that asks
+// for the codes of the part, and so is not public.
 ghost use Rattle.std.specs.Prelude.{◌≡◌, length};
 ghost use Rattle.designs.specs.Designs.{staged};
 ghost use Rattle.patterns.specs.Blocks.{place};
