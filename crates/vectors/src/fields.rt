@@ -1,7 +1,6 @@
 // Reads the fields of a line, each a space and a decimal number. What cannot be read is no number and no list.
 ghost use Rattle.std.specs.Prelude.{◌≤◌, IfSome};
 
-use std::alloc::Global;
 use std::str::{FromStr, Split};
 
 // The most that a list, a store or a slice has. A line that asks for more is not read.
@@ -55,27 +54,27 @@ impl<'a> Fields<'a> {
         Some(count).filter(|n| *n <= LONGEST)
     }
 
-    // A length, and so many numbers.
-    pub fn list(&mut self, alloc: Global) -> Option<Vec<i16>> {
+    // A length, and so many numbers, which go to the first places.
+    pub fn list<'b>(&mut self, places: &'b mut [i16; LONGEST]) -> Option<&'b [i16]> {
         let count = self.length()?;
-        self.numbers(alloc, count)
+        self.numbers(places.get_mut(..count)?)
     }
 
-    // The residues or the scores that end an answer, a length and so many numbers.
-    pub fn written(&mut self, alloc: Global) -> Option<Vec<i64>> {
-        let count = self.natural()?;
-        self.numbers(alloc, count)
+    // The residues or the scores that end an answer, a length and so many numbers, which go to the first places.
+    pub fn written<'b>(&mut self, places: &'b mut [i64; LONGEST]) -> Option<&'b [i64]> {
+        let count: usize = self.natural()?;
+        self.numbers(places.get_mut(..count)?)
     }
 
-    fn numbers<T: FromStr + Drop>(&mut self, alloc: Global, count: usize) -> Option<Vec<T>>
+    // As many numbers as there are places.
+    fn numbers<'b, T: FromStr + Drop>(&mut self, places: &'b mut [T]) -> Option<&'b [T]>
     where
         T::Err: Drop,
     {
-        let mut numbers = Vec::new(alloc);
-        for _ in 0..count {
-            numbers.push(self.number()?).ok()?;
+        for place in places.iter_mut() {
+            *place = self.number()?;
         }
-        Some(numbers)
+        Some(places)
     }
 
     pub fn are_read(&mut self) -> bool {

@@ -5,23 +5,25 @@ use crate::answers::{MARKED, are_written, is_due};
 use crate::fields::{Fields, LONGEST};
 use refusals::Refusal;
 use rows::RowReport;
-use std::alloc::Global;
 
-pub fn is_row(alloc: Global, fields: &mut Fields) -> Option<bool> {
+pub fn is_row(fields: &mut Fields) -> Option<bool> {
     let design = fields.number()?;
     let setting = fields.number()?;
-    let weights = fields.list(alloc)?;
-    let frame = fields.list(alloc)?;
+    let mut weights = [0; LONGEST];
+    let weights = fields.list(&mut weights)?;
+    let mut frame = [0; LONGEST];
+    let frame = fields.list(&mut frame)?;
     let count = fields.length()?;
     let mut places = MARKED;
     let mut again = MARKED;
-    let given = rows::score_row(design, setting, &weights, &frame, &mut places[..count]);
-    let by_itself = score_by_itself(design, setting, &weights, &frame, &mut again[..count]);
+    let given = rows::score_row(design, setting, weights, frame, &mut places[..count]);
+    let by_itself = score_by_itself(design, setting, weights, frame, &mut again[..count]);
     let (refusal, report) = answer(fields)?;
-    let residues = fields.written(alloc)?;
+    let mut residues = [0; LONGEST];
+    let residues = fields.written(&mut residues)?;
     let meets = |given: Result<RowReport, Refusal>, places: &[i64; LONGEST]| {
         let given = given.map(|report| (report, weights.len()));
-        is_due(given, refusal, (report, residues.len())) && are_written(places, &residues)
+        is_due(given, refusal, (report, residues.len())) && are_written(places, residues)
     };
     Some(meets(given, &places) && meets(by_itself, &again))
 }
