@@ -57,24 +57,11 @@ impl<'a> Fields<'a> {
     // A length, and so many numbers, which go to the first places.
     pub fn list<'b>(&mut self, places: &'b mut [i16; LONGEST]) -> Option<&'b [i16]> {
         let count = self.length()?;
-        self.numbers(places.get_mut(..count)?)
-    }
-
-    // The residues or the scores that end an answer, a length and so many numbers, which go to the first places.
-    pub fn written<'b>(&mut self, places: &'b mut [i64; LONGEST]) -> Option<&'b [i64]> {
-        let count: usize = self.natural()?;
-        self.numbers(places.get_mut(..count)?)
-    }
-
-    // As many numbers as there are places.
-    fn numbers<'b, T: FromStr + Drop>(&mut self, places: &'b mut [T]) -> Option<&'b [T]>
-    where
-        T::Err: Drop,
-    {
-        for place in places.iter_mut() {
-            *place = self.number()?;
+        let numbers = places.get_mut(..count)?;
+        for number in numbers.iter_mut() {
+            *number = self.number()?;
         }
-        Some(places)
+        Some(numbers)
     }
 
     pub fn are_read(&mut self) -> bool {
