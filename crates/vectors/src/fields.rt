@@ -1,7 +1,7 @@
 // Reads the fields of a line, each a space and a decimal number. What cannot be read is no number and no list.
 ghost use Rattle.std.specs.Prelude.{◌≤◌, IfSome};
 
-use std::str::{FromStr, Split};
+use std::str::FromStr;
 
 // The most that a list, a store or a slice has. A line that asks for more is not read.
 pub const LONGEST: usize = 12288;
@@ -9,14 +9,29 @@ pub const LONGEST: usize = 12288;
 // The fields that are left to read.
 #[derive(Drop)]
 pub struct Fields<'a> {
-    words: Split<'a, char>,
+    words: Option<&'a str>,
 }
 
 impl<'a> Fields<'a> {
     // Those of what stands behind a line's first letter.
     pub fn of(text: &'a str) -> Option<Self> {
-        let words = text.strip_prefix(' ')?.split(' ');
+        let words = Some(text.strip_prefix(' ')?);
         Some(Fields { words })
+    }
+
+    // The next word. By `split_once`, since a `Split` takes longer for a word.
+    fn word(&mut self) -> Option<&'a str> {
+        let words = self.words?;
+        match words.split_once(' ') {
+            Some((word, later)) => {
+                self.words = Some(later);
+                Some(word)
+            }
+            None => {
+                self.words = None;
+                Some(words)
+            }
+        }
     }
 
     // The next number.
@@ -24,7 +39,7 @@ impl<'a> Fields<'a> {
     where
         T::Err: Drop,
     {
-        parsed(self.words.next()?)
+        parsed(self.word()?)
     }
 
     // The next number, which is not below zero, in an answer whose numbers have signs: 0 may be −0 there.
@@ -45,7 +60,7 @@ impl<'a> Fields<'a> {
     pub fn places(&mut self) -> Option<usize>
         ensures { IfSome result (λ n. n ≤ 12288) }
     {
-        let word = self.words.next()?;
+        let word = self.word()?;
         parsed::<i64>(word)?;
         let mut count = 0;
         for byte in word.bytes() {
@@ -64,8 +79,8 @@ impl<'a> Fields<'a> {
         Some(numbers)
     }
 
-    pub fn are_read(&mut self) -> bool {
-        self.words.next().is_none()
+    pub fn are_read(&self) -> bool {
+        self.words.is_none()
     }
 }
 

@@ -73,7 +73,8 @@ pub fn is_right(line: &[u8]) -> bool {
 fn is_met(line: &[u8]) -> Option<bool> {
     let (letter, rest) = line.split_first()?;
     let kind = Kind::of(*letter)?;
-    let mut fields = Fields::of(str::from_utf8(rest).ok()?)?;
+    let text = str::from_utf8(rest).ok()?;
+    let mut fields = Fields::of(text.strip_suffix('\n').unwrap_or(text))?;
     let is_met = match kind {
         Kind::Unsigned => product_vectors::is_unsigned(&mut fields)?,
         Kind::Signed => product_vectors::is_signed(&mut fields)?,

@@ -19,19 +19,18 @@ pub fn known(text: &[u8]) -> Tally {
     count(text, |line| Some(group_of(line).is_some()))
 }
 
-// The lines of which `judge` says whether they are right. A line feed ends each line, and a last line without one is wrong.
+// The lines of which `judge`, which has them with their line feeds, says whether they are right. A last line without one is wrong.
 fn count<F: Fn(&[u8]) -> Option<bool>>(text: &[u8], judge: F) -> Tally
     requires { F.IsAlwaysCallable judge }
 {
     let mut tally = Tally::default();
     for line in text.split_inclusive(|byte| *byte == b'\n') {
-        let ended = line.strip_suffix(b"\n");
-        if let Some(is_right) = judge(ended.unwrap_or(line)) {
+        if let Some(is_right) = judge(line) {
             tally.count(is_right);
         }
-        if ended.is_none() {
-            tally.count(false);
-        }
+    }
+    if !text.is_empty() && !text.ends_with(b"\n") {
+        tally.count(false);
     }
     tally
 }
