@@ -1,8 +1,7 @@
 // Reads the fields of a line, each a space and a decimal number. What cannot be read is no number and no list.
 ghost use Rattle.std.specs.Prelude.{◌≤◌, IfSome};
 
-use std::alloc::Global;
-use std::str::{FromStr, Split};
+use std::str::FromStr;
 
 // The most that a list, a store or a slice has. A line that asks for more is not read.
 pub const LONGEST: usize = 12288;
@@ -10,14 +9,29 @@ pub const LONGEST: usize = 12288;
 // The fields that are left to read.
 #[derive(Drop)]
 pub struct Fields<'a> {
-    words: Split<'a, char>,
+    words: Option<&'a str>,
 }
 
 impl<'a> Fields<'a> {
     // Those of what stands behind a line's first letter.
     pub fn of(text: &'a str) -> Option<Self> {
-        let words = text.strip_prefix(' ')?.split(' ');
+        let words = Some(text.strip_prefix(' ')?);
         Some(Fields { words })
+    }
+
+    // The next word. By `split_once`, since a `Split` takes longer for a word.
+    fn word(&mut self) -> Option<&'a str> {
+        let words = self.words?;
+        match words.split_once(' ') {
+            Some((word, later)) => {
+                self.words = Some(later);
+                Some(word)
+            }
+            None => {
+                self.words = None;
+                Some(words)
+            }
+        }
     }
 
     // The next number.
@@ -25,7 +39,7 @@ impl<'a> Fields<'a> {
     where
         T::Err: Drop,
     {
-        parsed(self.words.next()?)
+        parsed(self.word()?)
     }
 
     // The next number, which is not below zero, in an answer whose numbers have signs: 0 may be −0 there.
@@ -46,7 +60,7 @@ impl<'a> Fields<'a> {
     pub fn places(&mut self) -> Option<usize>
         ensures { IfSome result (λ n. n ≤ 12288) }
     {
-        let word = self.words.next()?;
+        let word = self.word()?;
         parsed::<i64>(word)?;
         let mut count = 0;
         for byte in word.bytes() {
@@ -55,31 +69,18 @@ impl<'a> Fields<'a> {
         Some(count).filter(|n| *n <= LONGEST)
     }
 
-    // A length, and so many numbers.
-    pub fn list(&mut self, alloc: Global) -> Option<Vec<i16>> {
+    // A length, and so many numbers, which go to the first places.
+    pub fn list<'b>(&mut self, places: &'b mut [i16; LONGEST]) -> Option<&'b [i16]> {
         let count = self.length()?;
-        self.numbers(alloc, count)
-    }
-
-    // The residues or the scores that end an answer, a length and so many numbers.
-    pub fn written(&mut self, alloc: Global) -> Option<Vec<i64>> {
-        let count = self.natural()?;
-        self.numbers(alloc, count)
-    }
-
-    fn numbers<T: FromStr + Drop>(&mut self, alloc: Global, count: usize) -> Option<Vec<T>>
-    where
-        T::Err: Drop,
-    {
-        let mut numbers = Vec::new(alloc);
-        for _ in 0..count {
-            numbers.push(self.number()?).ok()?;
+        let numbers = places.get_mut(..count)?;
+        for number in numbers.iter_mut() {
+            *number = self.number()?;
         }
         Some(numbers)
     }
 
-    pub fn are_read(&mut self) -> bool {
-        self.words.next().is_none()
+    pub fn are_read(&self) -> bool {
+        self.words.is_none()
     }
 }
 

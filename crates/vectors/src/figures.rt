@@ -7,17 +7,15 @@ use crate::fields::{Fields, LONGEST};
 use crate::lines;
 use crate::row_vectors::answer;
 use crate::tally::Tally;
-use std::alloc::Global;
 
 // In their order: the table's rows; that design 3 at width 8 takes 8 stages, and neither 0 nor 9; that design 5 there keeps 7 bits, and
 // neither 0 nor 8, and that 6 is no design; that width 8 takes −128, and which of two operands it does not take, 128 signed or 256
 // unsigned, also beside a wrong setting; the limits of width 12, and the numbers beside it that are no widths; the starred row, a row with two
 // largest residues and one whose residues are 0; the layer; that 4,096 pairs are scored, and 4,097 not; that −20 over 2^3 is handed out as
 // −2.5, and T 39 then as 4.875; the singles.
-pub fn run(alloc: Global) -> Tally {
+pub fn run() -> Tally {
     lines::all(
-        alloc,
-        "q 1 8 0 255 0 65024 1
+        b"q 1 8 0 255 0 65024 1
 q 1 12 0 4095 0 16769024 1
 s 1 12 0 -2048 -2048 0 4194304
 q 2 32 0 4294967295 0 18446744065119617024 1

@@ -4,7 +4,7 @@ use crate::{
     figures, layer_vectors, product_vectors, row_vectors, score_vectors, single_vectors,
     store_vectors,
 };
-use std::alloc::Global;
+use std::str;
 
 #[derive(Clone, Copy)]
 enum Kind {
@@ -32,17 +32,17 @@ pub enum Group {
 
 impl Kind {
     // By the letter that a line starts with.
-    fn of(letter: char) -> Option<Kind> {
+    fn of(letter: u8) -> Option<Kind> {
         match letter {
-            'u' => Some(Kind::Unsigned),
-            's' => Some(Kind::Signed),
-            'r' => Some(Kind::Row),
-            't' => Some(Kind::Store),
-            'l' => Some(Kind::Layer),
-            'h' => Some(Kind::Score),
-            'f' => Some(Kind::Single),
-            'q' => Some(Kind::Square),
-            'n' => Some(Kind::RowOfOnes),
+            b'u' => Some(Kind::Unsigned),
+            b's' => Some(Kind::Signed),
+            b'r' => Some(Kind::Row),
+            b't' => Some(Kind::Store),
+            b'l' => Some(Kind::Layer),
+            b'h' => Some(Kind::Score),
+            b'f' => Some(Kind::Single),
+            b'q' => Some(Kind::Square),
+            b'n' => Some(Kind::RowOfOnes),
             _ => None,
         }
     }
@@ -61,25 +61,26 @@ impl Kind {
     }
 }
 
-pub fn group_of(line: &str) -> Option<Group> {
-    Kind::of(line.chars().next()?)?.group()
+pub fn group_of(line: &[u8]) -> Option<Group> {
+    Kind::of(*line.first()?)?.group()
 }
 
-// A line that cannot be read is wrong, and so is one for which there is no memory.
-pub fn is_right(alloc: Global, line: &str) -> bool {
-    is_met(alloc, line).unwrap_or(false)
+// A line that cannot be read is wrong, and so is one that is no text.
+pub fn is_right(line: &[u8]) -> bool {
+    is_met(line).unwrap_or(false)
 }
 
-fn is_met(alloc: Global, line: &str) -> Option<bool> {
-    let mut letters = line.chars();
-    let kind = Kind::of(letters.next()?)?;
-    let mut fields = Fields::of(letters.as_str())?;
+fn is_met(line: &[u8]) -> Option<bool> {
+    let (letter, rest) = line.split_first()?;
+    let kind = Kind::of(*letter)?;
+    let text = str::from_utf8(rest).ok()?;
+    let mut fields = Fields::of(text.strip_suffix('\n').unwrap_or(text))?;
     let is_met = match kind {
         Kind::Unsigned => product_vectors::is_unsigned(&mut fields)?,
         Kind::Signed => product_vectors::is_signed(&mut fields)?,
-        Kind::Row => row_vectors::is_row(alloc, &mut fields)?,
-        Kind::Store => store_vectors::is_part(alloc, &mut fields)?,
-        Kind::Layer => layer_vectors::is_layer(alloc, &mut fields)?,
+        Kind::Row => row_vectors::is_row(&mut fields)?,
+        Kind::Store => store_vectors::is_part(&mut fields)?,
+        Kind::Layer => layer_vectors::is_layer(&mut fields)?,
         Kind::Score => score_vectors::is_score(&mut fields)?,
         Kind::Single => single_vectors::is_single(&mut fields)?,
         Kind::Square => figures::is_square(&mut fields)?,

@@ -8,6 +8,7 @@ mod figures;
 mod kinds;
 mod layer_vectors;
 mod lines;
+mod output;
 mod product_vectors;
 mod row_vectors;
 mod score_vectors;
@@ -17,46 +18,50 @@ mod table;
 mod tally;
 
 use kinds::Group;
-use std::io;
-use std::io::Read;
+use output::Output;
+use std::fmt::Write;
 
 // More than the vectors take.
 const CAPACITY: usize = 2097152;
 
 // What is counted together, under its name.
 const GROUPS: [(&str, Group); 6] = [
-    ("products", Group::Products),
-    ("rows", Group::Rows),
-    ("stores", Group::Stores),
-    ("layers", Group::Layers),
-    ("scores", Group::Scores),
-    ("singles", Group::Singles),
+    ("products: ", Group::Products),
+    ("rows: ", Group::Rows),
+    ("stores: ", Group::Stores),
+    ("layers: ", Group::Layers),
+    ("scores: ", Group::Scores),
+    ("singles: ", Group::Singles),
 ];
 
-fn main(rt: HostRuntime) -> io::Result<()> {
-    let alloc = rt.alloc();
-    println!(rt; "figures: {}", figures::run(alloc))?;
-    println!(rt; "table: {}", table::run())?;
-    let input = read(&rt);
-    // An input of so many bytes may have been cut off, and then nothing is counted.
-    if input.len() == CAPACITY {
-        return Ok(());
+fn main() {
+    let _ = write!(Output, "figures: {}", figures::run());
+    let _ = write!(Output, "table: {}", table::run());
+    let mut buffer = [0; CAPACITY];
+    run(&mut buffer);
+}
+
+// The buffer is an array here, so that lending it as a slice asks nothing of its length.
+fn run(buffer: &mut [u8; CAPACITY]) {
+    read(buffer);
+}
+
+// An input that fills the buffer may have been cut off, and then nothing is counted.
+fn read(buffer: &mut [u8]) {
+    let length = io::read_full(0, buffer);
+    if length < buffer.len() {
+        count(&buffer[..length]);
     }
-    // What is no text becomes a letter that no line has.
-    count(&rt, &String::from_utf8_lossy(alloc, &input)?)
 }
 
-// A read that fails ends the input.
-fn read(rt: &HostRuntime) -> Vec<u8> {
-    let mut input = Vec::new(rt.alloc());
-    let _ = rt.stdin().take(CAPACITY as u64).read_to_end(&mut input);
-    input
-}
-
-fn count(rt: &HostRuntime, input: &str) -> io::Result<()> {
+fn count(input: &[u8]) {
     for (name, group) in GROUPS {
-        println!(rt; "{name}: {}", lines::of_group(rt.alloc(), input, group))?;
+        let _ = write!(Output, "{name}{}", lines::of_group(input, group));
     }
     let known = lines::known(input);
-    println!(rt; "input: {} lines, {} wrong", known.compared, known.wrong)
+    let _ = write!(
+        Output,
+        "input: {} lines, {} wrong\n",
+        known.compared, known.wrong
+    );
 }

@@ -1,29 +1,29 @@
 // Vectors of rows, DESIGN SETTING WEIGHTS FRAME PLACES REFUSAL SCORE TRUE ERROR T N LARGEST PLACE RESIDUES after the kind `r`. WEIGHTS, FRAME
 // and RESIDUES are lists, each a length and so many numbers. PLACES is the length of the residue slice. The row by the design is due, and,
 // if there is such a design, the design's row by itself.
-use crate::answers::{MARKED, are_written, is_due};
+use crate::answers::{MARK, are_written, is_due};
 use crate::fields::{Fields, LONGEST};
 use refusals::Refusal;
 use rows::RowReport;
-use std::alloc::Global;
 
-pub fn is_row(alloc: Global, fields: &mut Fields) -> Option<bool> {
+pub fn is_row(fields: &mut Fields) -> Option<bool> {
     let design = fields.number()?;
     let setting = fields.number()?;
-    let weights = fields.list(alloc)?;
-    let frame = fields.list(alloc)?;
+    let mut weights = [0; LONGEST];
+    let weights = fields.list(&mut weights)?;
+    let mut frame = [0; LONGEST];
+    let frame = fields.list(&mut frame)?;
     let count = fields.length()?;
-    let mut places = MARKED;
-    let mut again = MARKED;
-    let given = rows::score_row(design, setting, &weights, &frame, &mut places[..count]);
-    let by_itself = score_by_itself(design, setting, &weights, &frame, &mut again[..count]);
+    let mut places = [MARK; LONGEST];
+    let mut again = [MARK; LONGEST];
+    let given = rows::score_row(design, setting, weights, frame, &mut places[..count]);
+    let by_itself = score_by_itself(design, setting, weights, frame, &mut again[..count]);
     let (refusal, report) = answer(fields)?;
-    let residues = fields.written(alloc)?;
-    let meets = |given: Result<RowReport, Refusal>, places: &[i64; LONGEST]| {
-        let given = given.map(|report| (report, weights.len()));
-        is_due(given, refusal, (report, residues.len())) && are_written(places, &residues)
-    };
-    Some(meets(given, &places) && meets(by_itself, &again))
+    let written = fields.natural()?;
+    let is_same = by_itself == given && again == places;
+    let given = given.map(|report| (report, weights.len()));
+    let is_due = is_due(given, refusal, (report, written));
+    Some(is_same && is_due && are_written(&places, written, fields)?)
 }
 
 // The row of a design by itself, by the number that a line has; a number that is no design has none.

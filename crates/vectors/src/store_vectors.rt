@@ -2,21 +2,21 @@
 // is due, and otherwise that very refusal, an empty part, and 0 for its start.
 use crate::answers::is_due;
 use crate::fields::Fields;
-use std::alloc::Global;
 
 // The most that a store has.
-const LARGEST: u16 = 8192;
+const LARGEST: usize = 8192;
 
-pub fn is_part(alloc: Global, fields: &mut Fields) -> Option<bool> {
-    let length: u16 = fields.number()?;
-    if length > LARGEST {
-        return None;
-    }
+pub fn is_part(fields: &mut Fields) -> Option<bool> {
+    let length: usize = fields.number()?;
     // An element is the number of its place, so that a part tells where it starts.
-    let store: Vec<i16> = (0..length as i16).collect(alloc).ok()?;
+    let mut store = [0; LARGEST];
+    for (element, place) in store.iter_mut().zip(0..LARGEST as i16) {
+        *element = place;
+    }
+    let store = store.get(..length)?;
     let (columns, row) = (fields.number()?, fields.number()?);
-    let part = stores::row_part(&store, columns, row);
-    let refused = stores::row_refusal(&store, columns, row);
+    let part = stores::row_part(store, columns, row);
+    let refused = stores::row_refusal(store, columns, row);
     let refusal = fields.number()?;
     let start: usize = fields.number()?;
     let count = fields.number()?;

@@ -15,8 +15,9 @@ impl Tally {
     }
 }
 
+// To the end of a line.
 impl fmt::Display for Tally {
     fn fmt<W: fmt::Write>(&self, f: &mut fmt::Formatter<W>) -> fmt::Result {
-        write!(f, "{} compared, {} wrong", self.compared, self.wrong)
+        write!(f, "{} compared, {} wrong\n", self.compared, self.wrong)
     }
 }
