@@ -22,8 +22,9 @@ from edits import wrong_programs  # noqa: E402
 
 CRATES = {path.name for path in (ROOT / 'crates').iterdir()}
 EDITS = {f'{crate}/{name}' for crate, _, name, _ in wrong_programs()}
-# notes of landings, docs/PORT.md and docs/DESIGN-PASS.md name what is gone, so they are not read
-DOCUMENTS = [README, *sorted(f'docs/{path.name}' for path in (ROOT / 'docs').glob('*.md') if path.name not in ('PORT.md', 'DESIGN-PASS.md'))]
+# notes of landings and these pages name what is gone, so they are not read
+PAST = ('PORT.md', 'DESIGN-PASS.md', 'LOOK-BACK.md')
+DOCUMENTS = [README, *sorted(f'docs/{path.name}' for path in (ROOT / 'docs').glob('*.md') if path.name not in PAST)]
 # words that stand for any name; endings of files; crates of the kit, and types of the language
 ANY = re.compile(r'\b(CRATE|EDIT|FILE|FUNCTION)\b')
 ENDINGS = {'antt', 'c', 'edit', 'h', 'md', 'py', 'rs', 'rt', 'toml', 'txt'}
