@@ -95,6 +95,10 @@ def try_interrupts(folder):
         done = subprocess.run([PROGRAM], input=SAMPLE, stdout=output, stderr=subprocess.PIPE, timeout=60, env={**preloaded, 'SYNC_FAILS': '1'})
     found = done.returncode, file.read_bytes(), done.stderr
     expect('a file that is not stored', found, (0, LINES, b'bench: writing standard output: Disk quota exceeded\n'))
+    for name, lines, told in (('LOOK_INTERRUPTED', LINES, b''), ('TAKES_NOTHING', b'', b'bench: writing standard output: write zero\n')):
+        with file.open('wb') as output:
+            done = subprocess.run([PROGRAM], input=SAMPLE, stdout=output, stderr=subprocess.PIPE, timeout=60, env={**preloaded, name: '1'})
+        expect(name, (done.returncode, file.read_bytes(), done.stderr), (0, lines, told))
 
 
 def try_records(folder):
