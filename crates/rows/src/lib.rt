@@ -56,8 +56,8 @@ fn in_blocks(pairs: usize) -> usize
     pairs / 4 * 4
 }
 
-// Scores a row by the design that is asked for. Place i of `residues` gets what pair i leaves; a refused row leaves every place as it was. The
-// number of the design chooses the row at once: judged to a `Method` first, a row of one pair takes up to a third more time.
+// Scores a row by the design that is asked for. Place i of `residues` gets what pair i leaves; a refused row leaves every place as it was. It
+// calls the row of that design: with all five reports made here, each answer was copied twice on its way to a caller in Rattle.
 pub fn score_row(
     design: u32,
     setting: u32,
