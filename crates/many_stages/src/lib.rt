@@ -4,9 +4,11 @@
 // `strips::score` hands over. Any slices are taken.
 #![tactic(auto)]
 
+ghost use Rattle.std.specs.Prelude.{◌≡◌, length};
 ghost use Rattle.std.proofs.Common.{rules};
 ghost use Rattle.designs.specs.Designs.{staged};
-ghost use Rattle.many_stages.specs.Strips.{many_of};
+ghost use Rattle.patterns.specs.Blocks.{place};
+ghost use Rattle.many_stages.specs.Strips.{Coded, excess_of, many_of};
 
 mod count;
 mod frame;
@@ -14,6 +16,8 @@ mod left;
 mod powers;
 mod rows;
 mod sums;
+#[cfg(test)]
+mod tests;
 
 use strips::InStrips;
 
@@ -57,6 +61,8 @@ impl InStrips for ManyStages {
     ghost NUMBERS = { 128 };
 
     ghost design = { λ d. staged (many_of d.stages) };
+
+    ghost coded = { λ d part c. Coded (many_of d.stages) part c.held × (c.excess ≡ excess_of (many_of d.stages) (place part) (length part)) };
 
     ghost some = { Prim.search rules };
 

@@ -34,6 +34,8 @@ impl<D: ByCodes> InStrips for D {
 
     ghost design = { λ d. D.ByCodes.design d };
 
+    ghost coded = { λ d part c. D.ByCodes.coded d part c };
+
     ghost some = { Prim.search rules };
 
     ghost few = { Prim.search rules };

@@ -3,9 +3,9 @@
 // rows are as many as there are places for scores, each as long as the frame, and of the frame the first 4,096 numbers count.
 #![tactic(auto)]
 
-ghost use Rattle.std.specs.Prelude.{◌≡◌, ℕ, ◌<◌, ◌≤◌, length};
+ghost use Rattle.std.specs.Prelude.{◌≡◌, ℕ, ◌<◌, ◌≤◌, List, length, ℤ};
 ghost use Rattle.designs.specs.Designs.{Design};
-ghost use Rattle.strips.specs.Strips.{Room, Scored, Stripped};
+ghost use Rattle.strips.specs.Strips.{Room, Scored, Stripped, Summed};
 
 mod by_codes;
 mod by_pairs;
@@ -15,6 +15,8 @@ mod products;
 mod rows;
 mod stages;
 mod sums;
+#[cfg(test)]
+mod tests;
 
 pub use rows::{ahead, so_far};
 
@@ -39,6 +41,9 @@ pub trait InStrips: Copy {
 
     ghost design: { Self → Design };
 
+    // these are the codes of a part of a frame; by default any are
+    ghost coded: { Self → List ℤ → Self.Codes → Type 0 } = { λ d part c. Unit {0} };
+
     // A part of a frame against all rows, where the columns before `from` are done: it becomes codes, whatever they were before, and then each
     // row takes it. Of a longer part the first numbers count, and a sum that fits no place wraps.
     fn take(
@@ -50,7 +55,26 @@ pub trait InStrips: Copy {
         codes: &mut Self::Codes,
         scores: &mut [i64],
     )
-        ensures { length part.now ≤ NUMBERS → Room from scores.old → Stripped (design self) columns from weights.now part.now scores.old scores.new };
+        ensures scores { length part.now ≤ NUMBERS → Room from scores.old → Stripped (design self) columns from weights.now part.now scores.old scores.new }
+        ensures codes { length part.now ≤ NUMBERS → coded self part.now codes.new };
+
+    // The codes of a part by themselves: no row takes them.
+    fn code(self, part: &[i16], codes: &mut Self::Codes)
+        ensures { length part.now ≤ NUMBERS → coded self part.now codes.new }
+    {
+        let mut none: [i64; 0] = [];
+        self.take(0, 0, &[], part, codes, &mut none[..]);
+    }
+
+    // The sum of the products of a row and a part, by one row that takes it. The codes are made anew, so nothing is asked of what they were.
+    fn sum(self, row: &[i16], part: &[i16], codes: &mut Self::Codes) -> i64
+        ensures sum { length part.now ≤ NUMBERS → Summed (design self) row.now part.now result }
+        ensures codes { length part.now ≤ NUMBERS → coded self part.now codes.new }
+    {
+        let mut scores = [0];
+        self.take(row.len(), 0, row, part, codes, &mut scores[..]);
+        scores[0]
+    }
 
     ghost some: { 0 < NUMBERS };
 

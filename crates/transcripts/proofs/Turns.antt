@@ -1,5 +1,6 @@
 -- The loop over the records: what holds between two turns, a turn, and the end. Between two turns, writing what is still to be printed writes
 -- the whole, and there is room for it; each count is at most the records read, and the bytes read, since every record takes at least one.
+-- What is said of counts and text holds of any list of records; places are those of the records that an input holds.
 use mathlib.Core.Path.{◌≡◌, refl, ap, ◌∙◌}
 use Prim.Native.Nat.{ℕ, ◌+◌, ◌-◌, ◌≤◌, ◌<◌}
 use native.Mathlib.Omega.{arith}
@@ -25,6 +26,42 @@ pub record Within (t : Tally) (n : ℕ) : Type 0 where
 pub counts : {t : Tally} {n m : ℕ} (o : Outcome ℤ) → n < m → Within t n → Within (counted t o) m
 counts (accepted v) h w = omega arith
 counts (refused r) h w = omega arith
+
+-- between two turns, where of all records rs are still to be printed
+pub record Printing (all rs : List Record) (text₀ text : Text) (t : Tally) : Type 0 where
+  pub part : length rs ≤ length all
+  pub few : Within t (length all - length rs)
+  pub has_room : HasRoom text (printed t rs)
+  pub finish : {u : Text} → Appended text (printed t rs) u → Appended text₀ (printed none all) u
+
+pub none-printed : (all : List Record) (text : Text) → HasRoom text (printed none all) → Printing all all text text none
+none-printed all text h = record { part = omega arith; few = omega arith; has_room = h; finish = λ p. p }
+
+-- with a record's line the next turn goes on
+module _ {all rs : List Record} {text₀ text : Text} {t : Tally} {x : Record} (g : Printing all (x ∷ rs) text₀ text t) where
+  pub line-fits : HasRoom text (line x.kind x.outcome)
+  unfolding printed
+  line-fits = fit _ g.has_room
+
+  pub more-printed : {u : Text} → Appended text (line x.kind x.outcome) u → Printing all rs text₀ u (counted t x.outcome)
+  unfolding printed
+  more-printed p =
+      record {
+        part = omega (arith, g.part);
+        few = counts x.outcome (omega (arith, g.part)) g.few;
+        has_room = room _ p g.has_room;
+        finish = λ q. g.finish (then p q);
+      }
+
+-- and at the end nothing is left but the total
+module _ {all : List Record} {text₀ text : Text} {t : Tally} (g : Printing all [] text₀ text t) where
+  pub total-fits : HasRoom text (total_line t)
+  unfolding printed
+  total-fits = g.has_room
+
+  pub all-printed : {u : Text} → Appended text (total_line t) u → Appended text₀ (printed none all) u
+  unfolding printed
+  all-printed p = g.finish p
 
 -- the records that are still to be read, where a part of the input is
 abbrev pub left : List ℕ → ℕ → List Record
@@ -61,43 +98,33 @@ pub record Going (s : List ℕ) (at : ℕ) (rs : List Record) (text₀ text : Te
   pub has_room : HasRoom text (printed t rs)
   pub finish : {u : Text} → Appended text (printed t rs) u → Appended text₀ (printed none (records_of s)) u
 
+-- the same with the place reached
+pub placed : {s : List ℕ} {at : ℕ} {rs : List Record} {text₀ text : Text} {t : Tally} → at ≤ length s → rs ≡ left s at → Within t at
+    → Printing (records_of s) rs text₀ text t → Going s at rs text₀ text t
+placed inside are few g =
+    record { inside = inside; are = are; part = g.part; few = g.few; few-bytes = few; has_room = g.has_room; finish = g.finish }
+
+pub printing : {s : List ℕ} {at : ℕ} {rs : List Record} {text₀ text : Text} {t : Tally} → Going s at rs text₀ text t
+    → Printing (records_of s) rs text₀ text t
+printing g = record { part = g.part; few = g.few; has_room = g.has_room; finish = g.finish }
+
 pub start : (s : List ℕ) (text : Text) → HasRoom text (printed none (records_of s)) → Going s 0 (records_of s) text text none
-start s text h =
-    record {
-      inside = omega arith;
-      are = refl;
-      part = omega arith;
-      few = omega arith;
-      few-bytes = omega arith;
-      has_room = h;
-      finish = λ p. p;
-    }
+start s text h = placed (omega arith) refl (omega arith) (none-printed (records_of s) text h)
 
 -- with a record's line the next turn goes on, behind the bytes that the record took
 module _ {s : List ℕ} {at : ℕ} {x : Record} {rs : List Record} {text₀ text : Text} {t : Tally} (g : Going s at (x ∷ rs) text₀ text t) where
   pub line-room : HasRoom text (line x.kind x.outcome)
-  unfolding printed
-  line-room = fit _ g.has_room
+  line-room = line-fits (printing g)
 
   pub turn : {u : Text} → Appended text (line x.kind x.outcome) u → Going s (at + x.used) rs text₀ u (counted t x.outcome)
-  unfolding printed
   turn p =
-      record {
-        inside = (forward s at g.are).1;
-        are = behind s at g.are;
-        part = omega (arith, g.part);
-        few = counts x.outcome (omega (arith, g.part)) g.few;
-        few-bytes = counts x.outcome (omega (arith, forward s at g.are)) g.few-bytes;
-        has_room = room _ p g.has_room;
-        finish = λ q. g.finish (then p q);
-      }
+      let on = forward s at g.are in
+      placed on.1 (behind s at g.are) (counts x.outcome (omega (arith, on)) g.few-bytes) (more-printed (printing g) p)
 
 -- and at the end nothing is left but the total
 module _ {s : List ℕ} {at : ℕ} {text₀ text : Text} {t : Tally} (g : Going s at [] text₀ text t) where
   pub total-room : HasRoom text (total_line t)
-  unfolding printed
-  total-room = g.has_room
+  total-room = total-fits (printing g)
 
   pub done : {u : Text} → Appended text (total_line t) u → Appended text₀ (printed none (records_of s)) u
-  unfolding printed
-  done p = g.finish p
+  done p = all-printed (printing g) p

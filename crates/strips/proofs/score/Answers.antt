@@ -23,7 +23,7 @@ loop-part-preserved g c =
       strips =
           next _ _ _ _ _ _ _ _ _ c.loop-part.invariant.strips c.in-Some.ensures.steps.1.0
           (omega (arith, c.in-Some.ensures.steps, c.loop-part.invariant.size, g.met.S.InStrips.some))
-          (c.take.ensures (omega (arith, c.in-Some.ensures.steps, c.loop-part.invariant.size)) (room _ _ _ _ c.loop-part.invariant.strips));
+          (c.take.ensures.scores (omega (arith, c.in-Some.ensures.steps, c.loop-part.invariant.size)) (room _ _ _ _ c.loop-part.invariant.strips));
     }
 
 pub returns : goal.returns
