@@ -3,6 +3,7 @@
 use Rattle.std.proofs.Common.{◌≡◌, ℕ, zero, suc, ◌+◌, ◌-◌, ◌*◌, ◌^◌, ◌<◌, ◌≤◌, min, List, length, take, drop, set, ℤ, pos, ◌+ℤ◌, nat_abs, sym, refl, ap, ◌∙◌, subst, ap₂, arith, length-drop, get_or-drop, take_all, w64, SFits, to_z, of_z, to_z-of_z, below_more}
 use Rattle.std.specs.Int.{int_wrap, int_wrapping_add}
 use Rattle.std.proofs.lemmas.Int.{int_wrap_fits, wrapping_add_is}
+use lib.IntN.{+ℤ_idl}
 use lib.ListN.{get_or-eq_default}
 use lib.Signed.{mag}
 use Rattle.designs.specs.Designs.{Design}
@@ -109,6 +110,19 @@ module _ (D : Design) (columns from : ℕ) (ws part before : List ℤ) where
 
     pub next-wrapped : {at' : ℕ} → at' ≡ min (at + columns) (length ws) → Going (set scores r (int_wrapping_add w64 so_far sum)) at' (r + 1)
     next-wrapped {at'} e' = subst (λ (z : ℤ). Going (set scores r z) at' (r + 1)) (sym wrapped) (next-read e')
+
+-- a row by itself, before whose strip nothing is done: its place has the sum
+pub alone : {D : Design} {columns : ℕ} {ws part before after : List ℤ} → 0 < length before → length part ≤ 4096 → Stripped D columns 0 ws part before after
+    → Summed D ws part (to_z w64 (of_z w64 (place after 0)))
+alone {D} {columns} {ws} {part} {before} {after} some few stripped =
+    let small = stripped.small 0 some in
+    rw (read_back (place after 0) (sized (place after 0) (omega (arith, small, few))).sfits)
+    (record {
+      is =
+          stripped.done.first 0 some ∙ +ℤ_idl (total (product_at D ws (0 * columns + 0) part) (length part))
+          ∙ total-as (length part) (λ k l. ap (λ (i : ℕ). signed_product D (place ws i) (place part k)) (omega arith));
+      small = omega (arith, small);
+    })
 
 -- of a part that is no longer than m its first numbers are all
 pub whole-part : {D : Design} {columns from m n : ℕ} {ws part before after : List ℤ} → length part ≤ m → n ≡ min (length part) m
