@@ -124,8 +124,10 @@ alone {D} {columns} {ws} {part} {before} {after} some few stripped =
       small = omega (arith, small);
     })
 
--- of a part that is no longer than m its first numbers are all
+-- of a part that is no longer than m its first m numbers are all
+pub uncut : {m n : ℕ} {part : List ℤ} (P : List ℤ → Type 0) → length part ≤ m → n ≡ min (length part) m → P (take n part) → P part
+uncut {n = n} {part} P few e holds = subst P (take_all n part (omega arith)) holds
+
 pub whole-part : {D : Design} {columns from m n : ℕ} {ws part before after : List ℤ} → length part ≤ m → n ≡ min (length part) m
     → Stripped D columns from ws (take n part) before after → Stripped D columns from ws part before after
-whole-part {D} {columns} {from} {m} {n} {ws} {part} {before} {after} few e stripped =
-    subst (λ (p : List ℤ). Stripped D columns from ws p before after) (take_all n part (omega arith)) stripped
+whole-part {D} {columns} {from} {ws = ws} {before = before} {after} few e stripped = uncut (λ (p : List ℤ). Stripped D columns from ws p before after) few e stripped

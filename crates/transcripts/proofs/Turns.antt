@@ -88,7 +88,7 @@ module _ (s : List ℕ) (at : ℕ) {x : Record} {rs : List Record} (are : x ∷ 
   pub behind : rs ≡ left s (at + x.used)
   behind = ap (λ (l : List Record). drop 1 l) next ∙ rw (← is, drop-drop x.used at s)
 
--- between two turns, where the input is read up to `at`, and the records rs are left
+-- between two turns, where the input is read up to `at`, and the records rs are left: what `Printing` says, and the place
 pub record Going (s : List ℕ) (at : ℕ) (rs : List Record) (text₀ text : Text) (t : Tally) : Type 0 where
   pub inside : at ≤ length s
   pub are : rs ≡ left s at
@@ -98,7 +98,7 @@ pub record Going (s : List ℕ) (at : ℕ) (rs : List Record) (text₀ text : Te
   pub has_room : HasRoom text (printed t rs)
   pub finish : {u : Text} → Appended text (printed t rs) u → Appended text₀ (printed none (records_of s)) u
 
--- the same with the place reached
+-- the one from the other
 pub placed : {s : List ℕ} {at : ℕ} {rs : List Record} {text₀ text : Text} {t : Tally} → at ≤ length s → rs ≡ left s at → Within t at
     → Printing (records_of s) rs text₀ text t → Going s at rs text₀ text t
 placed inside are few g =
