@@ -111,7 +111,7 @@ module _ (D : Design) (columns from : ℕ) (ws part before : List ℤ) where
     pub next-wrapped : {at' : ℕ} → at' ≡ min (at + columns) (length ws) → Going (set scores r (int_wrapping_add w64 so_far sum)) at' (r + 1)
     next-wrapped {at'} e' = subst (λ (z : ℤ). Going (set scores r z) at' (r + 1)) (sym wrapped) (next-read e')
 
--- a row by itself, before whose strip nothing is done: its place has the sum
+-- where nothing is done before the strip, the first row's place has its sum
 pub alone : {D : Design} {columns : ℕ} {ws part before after : List ℤ} → 0 < length before → length part ≤ 4096 → Stripped D columns 0 ws part before after
     → Summed D ws part (to_z w64 (of_z w64 (place after 0)))
 alone {D} {columns} {ws} {part} {before} {after} some few stripped =

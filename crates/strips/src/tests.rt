@@ -1,4 +1,4 @@
-// The codes of a part and its sum with a row, each asked for by itself. Nothing else here asks for them so.
+// The codes of a part and its sum with a row, each asked for by itself. Nothing else in this crate asks for them so.
 use crate::InStrips;
 use patterns::methods::{Mitchell, Nearest, Staged, Truncated, TwiceTruncated};
 

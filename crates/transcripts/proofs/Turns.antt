@@ -1,6 +1,6 @@
 -- The loop over the records: what holds between two turns, a turn, and the end. Between two turns, writing what is still to be printed writes
 -- the whole, and there is room for it; each count is at most the records read, and the bytes read, since every record takes at least one.
--- What is said of counts and text holds of any list of records; places are those of the records that an input holds.
+-- What is said of text and of records read holds of any list of records; places, and the bytes read, are of those that an input holds.
 use mathlib.Core.Path.{◌≡◌, refl, ap, ◌∙◌}
 use Prim.Native.Nat.{ℕ, ◌+◌, ◌-◌, ◌≤◌, ◌<◌}
 use native.Mathlib.Omega.{arith}
@@ -88,7 +88,8 @@ module _ (s : List ℕ) (at : ℕ) {x : Record} {rs : List Record} (are : x ∷ 
   pub behind : rs ≡ left s (at + x.used)
   behind = ap (λ (l : List Record). drop 1 l) next ∙ rw (← is, drop-drop x.used at s)
 
--- between two turns, where the input is read up to `at`, and the records rs are left: what `Printing` says, and the place
+-- between two turns, where the input is read up to `at`, and the records rs are left: what `Printing` says, the place, and that
+-- no count passes it
 pub record Going (s : List ℕ) (at : ℕ) (rs : List Record) (text₀ text : Text) (t : Tally) : Type 0 where
   pub inside : at ≤ length s
   pub are : rs ≡ left s at

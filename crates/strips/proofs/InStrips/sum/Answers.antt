@@ -1,4 +1,4 @@
--- The one row that takes the part has its sum at its place.
+-- The one row that takes the part is the first, so its place has its sum.
 use Rattle.std.proofs.Common.{arith}
 use Rattle.strips.proofs.EachRow.{alone}
 use Rattle.strips.proofs.InStrips.sum.Goals as goal
